@@ -1,0 +1,50 @@
+use native.Mathlib.Omega.{arith}
+use borrow.Author.Needs.{needs}
+use Rattle.bits.proofs.Answers.{read-width, read-short, read-value}
+use Prim.Native.Nat.{_+_, _*_}
+use Rattle.bits.proofs.read.read_bits.Statement.{statement}
+use Rattle.bits.proofs.read.read_bits.Tie as tie
+use Rattle.bits.proofs.read.read_bits.Reads as reads
+use Rattle.bits.proofs.read.read_bits.Lts as lts
+use Rattle.bits.proofs.inner.after.Reads as after-reads
+use Rattle.bits.proofs.inner.needed.Reads as needed-reads
+use Rattle.bits.proofs.inner.settle.Reads as settle-reads
+use Rattle.bits.proofs.inner.take_bits.Reads as take-bits-reads
+
+returns : tie.Need-returns
+returns c = read-width _ _ _ (c .if1 .taken)
+
+settle-requires : tie.Need-settle-requires
+settle-requires c κs = search needs
+
+needed-requires : tie.Need-needed-requires
+needed-requires c κs = search needs
+
+returns-2 : tie.Need-returns-2
+returns-2 c =
+    let p = c .before .before .settle .result in
+    read-short _ _ _ (p .byte * 8 + p .bit) (search needs) (c .before .before .settle .ensures .pos) (search needs)
+
+take-bits-requires : tie.Need-take-bits-requires
+take-bits-requires c κs = search needs
+
+after-requires : tie.Need-after-requires
+after-requires c κs = search needs
+
+returns-3 : tie.Need-returns-3
+returns-3 c =
+    let p = c .before .before .before .before .settle .result in
+    read-value _ _ _ (p .byte * 8 + p .bit) (search needs) (c .before .before .before .before .settle .ensures .pos) (search needs)
+    (c .before .take-bits .ensures) (c .after .ensures)
+
+pub read-bits-spec : {M : Type 1} → statement M
+read-bits-spec =
+    tie.close
+    (tie.spec
+    returns
+    settle-requires
+    needed-requires
+    returns-2
+    take-bits-requires
+    after-requires
+    returns-3)

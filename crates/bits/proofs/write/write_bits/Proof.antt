@@ -1,0 +1,54 @@
+use native.Mathlib.Omega.{arith}
+use borrow.Author.Needs.{needs}
+use Prim.Native.Nat.{_+_, _*_}
+use Rattle.bits.proofs.Answers.{write-width, write-short, write-done}
+use Rattle.bits.proofs.write.write_bits.Statement.{statement}
+use Rattle.bits.proofs.write.write_bits.Tie as tie
+use Rattle.bits.proofs.write.write_bits.Reads as reads
+use Rattle.bits.proofs.write.write_bits.Lts as lts
+use Rattle.bits.proofs.inner.after.Reads as after-reads
+use Rattle.bits.proofs.inner.needed.Reads as needed-reads
+use Rattle.bits.proofs.inner.put_bits.Reads as put-bits-reads
+use Rattle.bits.proofs.inner.settle.Reads as settle-reads
+
+returns : tie.Need-returns
+returns c = write-width _ _ _ _ (c .if1 .taken)
+
+settle-requires : tie.Need-settle-requires
+settle-requires c κs = search needs
+
+needed-requires : tie.Need-needed-requires
+needed-requires c κs = search needs
+
+returns-2 : tie.Need-returns-2
+returns-2 c =
+    let p = c .before .before .settle .result in
+    write-short _ _ _ _ (p .byte * 8 + p .bit) (search needs) (c .before .before .settle .ensures .pos) (search needs) (c .before .needed .ensures)
+
+put-bits-requires : tie.Need-put-bits-requires
+put-bits-requires c κs = search needs
+
+after-requires : tie.Need-after-requires
+after-requires c κs = search needs
+
+same-length : tie.Need-same-length
+same-length c = search needs
+
+returns-3 : tie.Need-returns-3
+returns-3 c =
+    let p = c .before .before .before .before .before .before .before .settle .result in
+    write-done _ _ _ _ _ (p .byte * 8 + p .bit) (search needs) (c .before .before .before .before .before .before .before .settle .ensures .pos) (search needs)
+    (c .after .ensures) (c .before .before .before .put-bits .ensures)
+
+pub write-bits-spec : {M : Type 1} → statement M
+write-bits-spec =
+    tie.close
+    (tie.spec
+    returns
+    settle-requires
+    needed-requires
+    returns-2
+    put-bits-requires
+    after-requires
+    same-length
+    returns-3)

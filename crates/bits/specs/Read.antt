@@ -1,0 +1,29 @@
+-- A read of bits: document 01's numbers for its cases, and the rule.
+use Prim.Native.Nat.{ℕ, _+_, _*_}
+use mathlib.Core.Bool.{cond}
+use mathlib.Core.List.{List, [], _∷_}
+use lib.ListN.{length}
+use lib.Dec.{ltb}
+use Rattle.bits.specs.Told.{Told, gave, refused}
+use Rattle.bits.specs.Bits.{bitsAt}
+use Rattle.bits.specs.Place.{posOf, placeOf}
+use Rattle.bits.specs.declared.Place.{Place}
+use Rattle.bits.specs.declared.BitsRead.{BitsRead}
+use Rattle.bits.specs.declared.BitsRead.the-variants.{Value, Width, Short}
+
+-- the bits as a number, and the place after them
+pub record Piece : Type 0 where
+  pub value : ℕ
+  pub next : Place
+
+abbrev pub toldRead : BitsRead → Told Piece
+toldRead (Value v p) = gave (record { value = v; next = p })
+toldRead Width = refused (23 ∷ [])
+toldRead Short = refused (24 ∷ [])
+
+-- n bits of s from a place on: above 64 refused, then with fewer bits left than asked
+unfoldable pub readRule : List ℕ → Place → ℕ → Told Piece
+readRule s at n =
+    cond (ltb 64 n) (refused (23 ∷ []))
+    (cond (ltb (length s * 8) (posOf (length s) at + n)) (refused (24 ∷ []))
+    (gave (record { value = bitsAt s (posOf (length s) at) n; next = placeOf (posOf (length s) at + n) })))

@@ -1,0 +1,31 @@
+-- A write of bits: document 01's numbers for its cases, the rule, and the buffer afterwards.
+use Prim.Native.Nat.{ℕ, _+_, _*_, _/_}
+use mathlib.Core.Bool.{cond}
+use mathlib.Core.List.{List, [], _∷_}
+use lib.ListN.{length}
+use lib.Dec.{ltb}
+use Rattle.bits.specs.Told.{Told, gave, refused}
+use Rattle.bits.specs.Bits.{putBits}
+use Rattle.bits.specs.Place.{posOf, placeOf}
+use Rattle.bits.specs.declared.Place.{Place}
+use Rattle.bits.specs.declared.BitsWritten.{BitsWritten}
+use Rattle.bits.specs.declared.BitsWritten.the-variants.{Done, Width, Short}
+
+abbrev pub toldWrite : BitsWritten → Told Place
+toldWrite (Done p) = gave p
+toldWrite Width = refused (23 ∷ [])
+toldWrite (Short bytes) = refused (21 ∷ bytes ∷ [])
+
+-- n bits into s from a place on: above 64 refused, then, told with the whole bytes needed, a buffer too short
+unfoldable pub writeRule : List ℕ → Place → ℕ → Told Place
+writeRule s at n =
+    cond (ltb 64 n) (refused (23 ∷ []))
+    (cond (ltb (length s * 8) (posOf (length s) at + n)) (refused (21 ∷ (posOf (length s) at + n + 7) / 8 ∷ []))
+    (gave (placeOf (posOf (length s) at + n))))
+
+-- the buffer after a write of the n low bits of v: refused, it is as before
+unfoldable pub written : List ℕ → Place → ℕ → ℕ → List ℕ
+written s at v n =
+    cond (ltb 64 n) s
+    (cond (ltb (length s * 8) (posOf (length s) at + n)) s
+    (putBits s (posOf (length s) at) v n))

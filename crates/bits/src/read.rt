@@ -1,0 +1,23 @@
+// A read of 0 to 64 bits.
+ghost use mathlib.Core.Path.{_≡_};
+ghost use Rattle.bits.specs.Read.{toldRead, readRule};
+use crate::BitsRead;
+use crate::Place;
+use crate::inner::after;
+use crate::inner::needed;
+use crate::inner::settle;
+use crate::inner::take_bits;
+
+pub fn read_bits(s: &[u8], at: Place, width: u8) -> BitsRead
+    ensures { λ r. ⌜ toldRead r ≡ readRule (now (s .entry)) at width ⌝ }
+{
+    if width > 64 {
+        return BitsRead::Width;
+    }
+    let p = settle(s.len(), at);
+    if s.len() < needed(p, width) {
+        return BitsRead::Short;
+    }
+    let v = take_bits(s, p.byte, p.bit, width);
+    BitsRead::Value(v, after(p, width))
+}

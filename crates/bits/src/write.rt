@@ -1,0 +1,25 @@
+// A write of the 0 to 64 low bits of a value.
+ghost use mathlib.Core.Path.{_≡_};
+ghost use Rattle.bits.specs.Write.{toldWrite, writeRule, written};
+use crate::BitsWritten;
+use crate::Place;
+use crate::inner::after;
+use crate::inner::needed;
+use crate::inner::put_bits;
+use crate::inner::settle;
+
+pub fn write_bits(buf: &mut [u8], at: Place, value: u64, width: u8) -> BitsWritten
+    ensures answer { λ r. ⌜ toldWrite r ≡ writeRule (now (buf .entry)) at width ⌝ }
+    ensures buf { λ r. ⌜ now (buf .exit) ≡ written (now (buf .entry)) at value width ⌝ }
+{
+    if width > 64 {
+        return BitsWritten::Width;
+    }
+    let p = settle(buf.len(), at);
+    let n = needed(p, width);
+    if buf.len() < n {
+        return BitsWritten::Short(n);
+    }
+    put_bits(buf, p.byte, p.bit, value, width);
+    BitsWritten::Done(after(p, width))
+}
