@@ -5,3 +5,4 @@ pub mod Read
 pub mod Write
 pub mod Signed
 pub mod Extend
+pub mod Over

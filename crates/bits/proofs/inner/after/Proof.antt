@@ -3,8 +3,6 @@ use borrow.Author.Needs.{needs}
 use Rattle.bits.proofs.Bits.{place-on}
 use Rattle.bits.proofs.inner.after.Statement.{statement}
 use Rattle.bits.proofs.inner.after.Tie as tie
-use Rattle.bits.proofs.inner.after.Reads as reads
-use Rattle.bits.proofs.inner.after.Lts as lts
 
 add-t3 : tie.Need-add-t3
 add-t3 c = search needs

@@ -4,9 +4,6 @@ use mathlib.Core.Path.{_≡_, sym, ap, _∙_}
 use Rattle.bits.proofs.Bits.{bitAt-eq}
 use Rattle.bits.proofs.inner.bit_at.Statement.{statement}
 use Rattle.bits.proofs.inner.bit_at.Tie as tie
-use Rattle.bits.proofs.inner.bit_at.Reads as reads
-use Rattle.bits.proofs.inner.bit_at.Lts as lts
-use Rattle.bits.proofs.inner.wide.Reads as wide-reads
 
 shared-slice-read-wide : tie.Need-shared-slice-read-wide
 shared-slice-read-wide c = search needs

@@ -7,8 +7,6 @@ use lib.Bits.{bitAnd, and-mask}
 use Rattle.bits.proofs.Bits.{one-shl}
 use Rattle.bits.proofs.inner.field.Statement.{statement}
 use Rattle.bits.proofs.inner.field.Tie as tie
-use Rattle.bits.proofs.inner.field.Reads as reads
-use Rattle.bits.proofs.inner.field.Lts as lts
 
 shr-result : tie.Need-shr-result
 shr-result c = search needs

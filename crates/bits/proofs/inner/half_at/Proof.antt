@@ -6,10 +6,6 @@ use Rattle.bits.proofs.Bits.{one-byte, next-byte}
 use borrow.Author.Needs.{needs}
 use Rattle.bits.proofs.inner.half_at.Statement.{statement}
 use Rattle.bits.proofs.inner.half_at.Tie as tie
-use Rattle.bits.proofs.inner.half_at.Reads as reads
-use Rattle.bits.proofs.inner.half_at.Lts as lts
-use Rattle.bits.proofs.inner.join.Reads as join-reads
-use Rattle.bits.proofs.inner.wide.Reads as wide-reads
 
 shared-slice-read-wide : tie.Need-shared-slice-read-wide
 shared-slice-read-wide c = search needs

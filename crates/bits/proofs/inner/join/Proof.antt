@@ -7,9 +7,6 @@ use lib.Pow.{shl-exact}
 use borrow.Author.Needs.{needs}
 use Rattle.bits.proofs.inner.join.Statement.{statement}
 use Rattle.bits.proofs.inner.join.Tie as tie
-use Rattle.bits.proofs.inner.join.Reads as reads
-use Rattle.bits.proofs.inner.join.Lts as lts
-use Rattle.bits.proofs.inner.wide.Reads as wide-reads
 
 wide-requires : tie.Need-wide-requires
 wide-requires c κs = search needs

@@ -8,9 +8,6 @@ use Rattle.bits.specs.Signed.{pattern}
 use Rattle.bits.proofs.Widths.{size-is}
 use Rattle.bits.proofs.inner.low_bits.Statement.{statement}
 use Rattle.bits.proofs.inner.low_bits.Tie as tie
-use Rattle.bits.proofs.inner.low_bits.Reads as reads
-use Rattle.bits.proofs.inner.low_bits.Lts as lts
-use Rattle.bits.proofs.signed.as_unsigned.Reads as as-unsigned-reads
 
 as-unsigned-requires : tie.Need-as-unsigned-requires
 as-unsigned-requires c κs = search needs

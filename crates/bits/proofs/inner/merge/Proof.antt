@@ -3,9 +3,6 @@ use borrow.Author.Needs.{needs}
 use Rattle.bits.proofs.Bits.{merge-lt, merge-eq}
 use Rattle.bits.proofs.inner.merge.Statement.{statement}
 use Rattle.bits.proofs.inner.merge.Tie as tie
-use Rattle.bits.proofs.inner.merge.Reads as reads
-use Rattle.bits.proofs.inner.merge.Lts as lts
-use Rattle.bits.proofs.inner.wide.Reads as wide-reads
 
 sub-room : tie.Need-sub-room
 sub-room c = search needs

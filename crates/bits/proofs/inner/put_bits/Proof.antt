@@ -10,11 +10,6 @@ use Rattle.bits.specs.Bits.{putBits}
 use Rattle.bits.proofs.Bits.{put-some, put-left, put-total, put-none, put-first, put-all, byte-set, length-putBits}
 use Rattle.bits.proofs.inner.put_bits.Statement.{statement}
 use Rattle.bits.proofs.inner.put_bits.Tie as tie
-use Rattle.bits.proofs.inner.put_bits.Reads as reads
-use Rattle.bits.proofs.inner.put_bits.Lts as lts
-use Rattle.bits.proofs.inner.field.Reads as field-reads
-use Rattle.bits.proofs.inner.least.Reads as least-reads
-use Rattle.bits.proofs.inner.merge.Reads as merge-reads
 
 abbrev Inv-loop : tie.InvT-loop
 Inv-loop buf₀ from first value width t x byte₀ left₀ buf byte left =

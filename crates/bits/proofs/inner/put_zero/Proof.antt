@@ -6,9 +6,6 @@ use Rattle.bits.proofs.Bits.{putBits-byte}
 use borrow.Author.Needs.{needs}
 use Rattle.bits.proofs.inner.put_zero.Statement.{statement}
 use Rattle.bits.proofs.inner.put_zero.Tie as tie
-use Rattle.bits.proofs.inner.put_zero.Reads as reads
-use Rattle.bits.proofs.inner.put_zero.Lts as lts
-use Rattle.bits.proofs.inner.merge.Reads as merge-reads
 
 slice-read-merge : tie.Need-slice-read-merge
 slice-read-merge c = search needs

@@ -5,8 +5,6 @@ use borrow.Author.Tests.{lt-ltb, le-ltb}
 use Rattle.bits.specs.Place.{posOf}
 use Rattle.bits.proofs.inner.settle.Statement.{statement}
 use Rattle.bits.proofs.inner.settle.Tie as tie
-use Rattle.bits.proofs.inner.settle.Reads as reads
-use Rattle.bits.proofs.inner.settle.Lts as lts
 
 returns : tie.Need-returns
 unfolding posOf

@@ -7,11 +7,6 @@ use Rattle.bits.specs.Bits.{bitsAt}
 use Rattle.bits.proofs.Bits.{take-some, bitsAt-fits}
 use Rattle.bits.proofs.inner.take_bits.Statement.{statement}
 use Rattle.bits.proofs.inner.take_bits.Tie as tie
-use Rattle.bits.proofs.inner.take_bits.Reads as reads
-use Rattle.bits.proofs.inner.take_bits.Lts as lts
-use Rattle.bits.proofs.inner.field.Reads as field-reads
-use Rattle.bits.proofs.inner.least.Reads as least-reads
-use Rattle.bits.proofs.inner.wide.Reads as wide-reads
 
 abbrev Inv-loop : tie.InvT-loop
 Inv-loop s from first width byte₀ bit₀ v₀ k₀ byte bit v k =

@@ -8,9 +8,6 @@ use Rattle.bits.proofs.Bits.{bitsAt-lt, two-halves}
 use borrow.Author.Needs.{needs}
 use Rattle.bits.proofs.inner.word_at.Statement.{statement}
 use Rattle.bits.proofs.inner.word_at.Tie as tie
-use Rattle.bits.proofs.inner.word_at.Reads as reads
-use Rattle.bits.proofs.inner.word_at.Lts as lts
-use Rattle.bits.proofs.inner.half_at.Reads as half-at-reads
 
 half-at-requires : tie.Need-half-at-requires
 half-at-requires c κs = search needs

@@ -4,12 +4,6 @@ use Rattle.bits.proofs.Answers.{read-width, read-short, read-value}
 use Prim.Native.Nat.{_+_, _*_}
 use Rattle.bits.proofs.read.read_bits.Statement.{statement}
 use Rattle.bits.proofs.read.read_bits.Tie as tie
-use Rattle.bits.proofs.read.read_bits.Reads as reads
-use Rattle.bits.proofs.read.read_bits.Lts as lts
-use Rattle.bits.proofs.inner.after.Reads as after-reads
-use Rattle.bits.proofs.inner.needed.Reads as needed-reads
-use Rattle.bits.proofs.inner.settle.Reads as settle-reads
-use Rattle.bits.proofs.inner.take_bits.Reads as take-bits-reads
 
 returns : tie.Need-returns
 returns c = read-width _ _ _ (c .if1 .taken)

@@ -6,8 +6,6 @@ use mir.Val.{toZ}
 use borrow.Author.Needs.{needs}
 use Rattle.bits.proofs.signed.as_signed.Statement.{statement}
 use Rattle.bits.proofs.signed.as_signed.Tie as tie
-use Rattle.bits.proofs.signed.as_signed.Reads as reads
-use Rattle.bits.proofs.signed.as_signed.Lts as lts
 
 cast-result : tie.Need-cast-result
 cast-result c = search needs

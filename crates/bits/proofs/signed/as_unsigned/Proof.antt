@@ -10,8 +10,6 @@ use mir.Facts.{toZ-ofZ}
 use Rattle.bits.proofs.Signs.{at-least-0, at-least-0-is, below-0, flip}
 use Rattle.bits.proofs.signed.as_unsigned.Statement.{statement}
 use Rattle.bits.proofs.signed.as_unsigned.Tie as tie
-use Rattle.bits.proofs.signed.as_unsigned.Reads as reads
-use Rattle.bits.proofs.signed.as_unsigned.Lts as lts
 
 cast-result : tie.Need-cast-result
 cast-result c = rw (toZ-ofZ (c .before .fits .i)) (at-least-0 (c .before .args .i) (c .before .fits .i) (rw (toZ-ofZ (c .before .fits .i)) at (c .if1 .taken)))

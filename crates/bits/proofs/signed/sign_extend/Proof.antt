@@ -12,9 +12,6 @@ use Rattle.bits.proofs.Widths.{up-and-back, extend-fits, taken, none, w
 use borrow.Author.Needs.{needs, sfits-of}
 use Rattle.bits.proofs.signed.sign_extend.Statement.{statement}
 use Rattle.bits.proofs.signed.sign_extend.Tie as tie
-use Rattle.bits.proofs.signed.sign_extend.Reads as reads
-use Rattle.bits.proofs.signed.sign_extend.Lts as lts
-use Rattle.bits.proofs.signed.as_signed.Reads as as-signed-reads
 
 sub-shift : tie.Need-sub-shift
 sub-shift c = search needs

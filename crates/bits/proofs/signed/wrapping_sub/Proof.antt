@@ -7,11 +7,6 @@ use Rattle.bits.proofs.Signs.{sub-is}
 use borrow.Author.Needs.{needs}
 use Rattle.bits.proofs.signed.wrapping_sub.Statement.{statement}
 use Rattle.bits.proofs.signed.wrapping_sub.Tie as tie
-use Rattle.bits.proofs.signed.wrapping_sub.Reads as reads
-use Rattle.bits.proofs.signed.wrapping_sub.Lts as lts
-use Rattle.bits.proofs.signed.as_signed.Reads as as-signed-reads
-use Rattle.bits.proofs.signed.as_unsigned.Reads as as-unsigned-reads
-use Rattle.std.proofs.num.wrapping_sub_u64.Reads as wrapping-sub-u64-reads
 
 as-unsigned-requires : tie.Need-as-unsigned-requires
 as-unsigned-requires c κs = search needs

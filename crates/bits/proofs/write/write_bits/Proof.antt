@@ -4,12 +4,6 @@ use Prim.Native.Nat.{_+_, _*_}
 use Rattle.bits.proofs.Answers.{write-width, write-short, write-done}
 use Rattle.bits.proofs.write.write_bits.Statement.{statement}
 use Rattle.bits.proofs.write.write_bits.Tie as tie
-use Rattle.bits.proofs.write.write_bits.Reads as reads
-use Rattle.bits.proofs.write.write_bits.Lts as lts
-use Rattle.bits.proofs.inner.after.Reads as after-reads
-use Rattle.bits.proofs.inner.needed.Reads as needed-reads
-use Rattle.bits.proofs.inner.put_bits.Reads as put-bits-reads
-use Rattle.bits.proofs.inner.settle.Reads as settle-reads
 
 returns : tie.Need-returns
 returns c = write-width _ _ _ _ (c .if1 .taken)

@@ -1,0 +1,11 @@
+pub mod Ranges
+pub mod Rows
+pub mod Taking
+pub mod Trip
+pub mod Bridge
+pub mod Packing
+pub mod ImageTrip
+pub mod Putting
+pub mod Readers
+pub mod RoundTrip
+pub mod Cases

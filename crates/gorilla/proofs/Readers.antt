@@ -1,0 +1,116 @@
+-- What a call of `read_bits` says of the readers of bit lists. Assumes nothing.
+use Prim.Native.Nat.{ℕ, zero, suc, _+_, _-_, _*_, _≤_, _<_}
+use mathlib.Core.Path.{_≡_, refl, sym, ap, ap₂, _∙_, subst}
+use mathlib.Core.List.{List, [], _∷_}
+use native.Mathlib.Omega.{arith}
+use borrow.Author.Tests.{ne-eqb}
+use lib.ListN.{length, drop, getD}
+use lib.IntN.{ℤ, pos}
+use Rattle.bits.specs.declared.Extended.the-variants as ev
+use Rattle.bits.specs.Extend.{extend, extendRule, toldExtend}
+use Rattle.gorilla.specs.Rows.{decoded}
+use Rattle.gorilla.specs.Rows.{widths}
+use Rattle.bits.proofs.Widths.{taken}
+use Rattle.bits.specs.Bits.{bitsAt}
+use Rattle.bits.specs.Place.{posOf, placeOf}
+use Rattle.bits.specs.Read.{readRule, toldRead}
+use Rattle.bits.specs.declared.Place.{Place}
+use Rattle.bits.specs.declared.BitsRead.the-variants as rv
+use Rattle.bits.proofs.Answers.{given, short, pos-le}
+use Rattle.gorilla.specs.BitList.{bitsOf}
+use Rattle.gorilla.specs.Parser.{Read, read, refused, takeOff, andThen, shape}
+use Rattle.gorilla.specs.Places.{bitsFrom}
+use Rattle.gorilla.specs.Reading.{cutNumber, countOnes, readCode, readCodes}
+use Rattle.gorilla.proofs.Bridge.{take-at, take-short}
+
+module _ (s : List ℕ) (at : Place) (n : ℕ) (l : List ℕ) where
+  pub took : {v : ℕ} {q : Place} → toldRead (rv.Value v q) ≡ readRule s at n → takeOff l n 0 (bitsFrom s at) ≡ read v (bitsFrom s q)
+  unfolding bitsFrom
+  took h =
+      let g = given s at n h in
+      take-at l s n (posOf (length s) at) (g .within) ∙ ap₂ (λ (u p : ℕ). read u (drop p (bitsOf s))) (sym (g .value)) (sym (g .pos))
+
+  pub ended : toldRead rv.Short ≡ readRule s at n → takeOff l n 0 (bitsFrom s at) ≡ refused l
+  unfolding bitsFrom
+  ended h = take-short l s n (posOf (length s) at) (pos-le (length s) at) (short s at n h)
+
+-- one bit of a prefix
+module _ (a i k n : ℕ) where
+  pub at-zero : (bs : List ℕ) {b : ℕ} {r : List ℕ} → takeOff [] 1 0 bs ≡ read b r → b ≡ 0 → countOnes a i (suc k) n bs ≡ read n r
+  unfolding takeOff countOnes
+  at-zero [] h e = let z : _≡_ {A = ℕ} 0 1 = cc in absurd (omega arith)
+  at-zero (zero ∷ bs) h e = cc
+  at-zero (suc c ∷ bs) {b} {r} h e = let z : 0 * 2 + suc c ≡ b = cc in absurd (omega arith)
+
+  pub at-one : (bs : List ℕ) {b : ℕ} {r : List ℕ} → takeOff [] 1 0 bs ≡ read b r → (b ≡ 0 → ⊥) → countOnes a i (suc k) n bs ≡ countOnes a i k (n + 1) r
+  unfolding takeOff countOnes
+  at-one [] h e = let z : _≡_ {A = ℕ} 0 1 = cc in absurd (omega arith)
+  at-one (zero ∷ bs) {b} {r} h e = let z : 0 * 2 + 0 ≡ b = cc in absurd (e (omega arith))
+  at-one (suc c ∷ bs) {b} {r} h e = let z : bs ≡ r = cc in ap (countOnes a i k (n + 1)) z
+
+  pub at-end : (bs : List ℕ) → takeOff [] 1 0 bs ≡ refused [] → countOnes a i (suc k) n bs ≡ refused (cutNumber n ∷ a ∷ i ∷ [])
+  unfolding takeOff countOnes
+  at-end [] h = refl
+  at-end (zero ∷ bs) h = let z : _≡_ {A = ℕ} 0 1 = cc in absurd (omega arith)
+  at-end (suc c ∷ bs) h = let z : _≡_ {A = ℕ} 0 1 = cc in absurd (omega arith)
+
+-- ---- a difference of w bits
+pub value-decoded : (v w : ℕ) {d : ℤ} → toldExtend (ev.Value d) ≡ extendRule v w → w ≤ 32 → d ≡ decoded w v
+value-decoded v zero h k = let z : _≡_ {A = ℕ} 0 1 = cc in absurd (omega arith)
+value-decoded v (suc w) {d} h k = let e = taken v (suc w) (omega arith) k in let q : d ≡ extend (suc w) v = cc in simp (ne-eqb (suc w) 0 (λ z. omega arith)) q
+
+pub none-decoded : (v w : ℕ) → toldExtend ev.Width ≡ extendRule v w → w ≤ 32 → pos 0 ≡ decoded w v
+none-decoded v zero h k = refl
+none-decoded v (suc w) h k = let e = taken v (suc w) (omega arith) k in let z : _≡_ {A = ℕ} 0 1 = cc in absurd (omega arith)
+
+-- ---- the count of ones is at most four, and its width at most 32
+ones-le : (a i k n m : ℕ) (bs r : List ℕ) → read m r ≡ countOnes a i k n bs → m ≤ n + k
+unfolding countOnes
+ones-le a i zero n m bs r h = let e : m ≡ n = cc in omega arith
+ones-le a i (suc k) n m [] r h = let z : _≡_ {A = ℕ} 0 1 = cc in absurd (omega arith)
+ones-le a i (suc k) n m (zero ∷ bs) r h = let e : m ≡ n = cc in omega arith
+ones-le a i (suc k) n m (suc b ∷ bs) r h = omega (arith, ones-le a i k (n + 1) m bs r h)
+
+pub ones-most : (a i m : ℕ) (bs r : List ℕ) → read m r ≡ countOnes a i 4 0 bs → m ≤ 4
+ones-most a i m bs r h = ones-le a i 4 0 m bs r h
+
+pub width-most : (n : ℕ) → getD widths n 0 ≤ 32
+width-most zero = omega arith
+width-most (suc zero) = omega arith
+width-most (suc (suc zero)) = omega arith
+width-most (suc (suc (suc zero))) = omega arith
+width-most (suc (suc (suc (suc zero)))) = omega arith
+width-most (suc (suc (suc (suc (suc n))))) = omega arith
+
+-- ---- one code
+module _ (a i n : ℕ) (bs : List ℕ) where
+  pub code-read : {v : ℕ} {r q : List ℕ} → read n r ≡ countOnes a i 4 0 bs → takeOff (8 ∷ a ∷ i ∷ getD widths n 0 ∷ []) (getD widths n 0) 0 r ≡ read v q
+      → readCode a i bs ≡ read (decoded (getD widths n 0) v) q
+  unfolding readCode
+  code-read h k = rw (← h) (rw k)
+
+  pub code-short : {r : List ℕ} → read n r ≡ countOnes a i 4 0 bs → takeOff (8 ∷ a ∷ i ∷ getD widths n 0 ∷ []) (getD widths n 0) 0 r ≡ refused (8 ∷ a ∷ i ∷ getD widths n 0 ∷ [])
+      → readCode a i bs ≡ refused (8 ∷ a ∷ i ∷ getD widths n 0 ∷ [])
+  unfolding readCode
+  code-short h k = rw (← h) (rw k)
+
+pub code-cut : (a i : ℕ) (bs l : List ℕ) → refused l ≡ countOnes a i 4 0 bs → readCode a i bs ≡ refused l
+unfolding readCode
+code-cut a i bs l h = rw (← h)
+
+-- ---- the codes, one after the other
+shape-then : {A B : Type 0} (r : Read A) (f : A → B) → shape (andThen r (λ x bs. read (f x) bs)) ≡ shape r
+shape-then (read x bs) f = refl
+shape-then (refused l) f = refl
+
+module _ (a k i : ℕ) (bs : List ℕ) where
+  pub codes-next : {d : ℤ} {q : List ℕ} → read d q ≡ readCode a i bs → readCodes a (suc k) i bs ≡ andThen (readCodes a k (i + 1) q) (λ ds r. read (d ∷ ds) r)
+  unfolding readCodes
+  codes-next h = rw (← h)
+
+  pub shape-next : {d : ℤ} {q : List ℕ} → read d q ≡ readCode a i bs → shape (readCodes a (suc k) i bs) ≡ shape (readCodes a k (i + 1) q)
+  shape-next {d} {q} h = ap shape (codes-next h) ∙ shape-then (readCodes a k (i + 1) q) (λ ds. d ∷ ds)
+
+  pub codes-cut : {l : List ℕ} → refused l ≡ readCode a i bs → readCodes a (suc k) i bs ≡ refused l
+  unfolding readCodes
+  codes-cut h = rw (← h)

@@ -1,0 +1,97 @@
+-- How an array and an image are read, with document 01's refusals where they arise. Array 0 is the sequences, and array 1 the seconds.
+use Prim.Native.Nat.{ℕ, zero, suc, _+_, _*_, _%_}
+use mathlib.Core.Bool.{Bool, true, false}
+use mathlib.Core.List.{List, [], _∷_, map}
+use lib.Dec.{eqb}
+use lib.ListN.{length, getD, drop}
+use lib.IntN.{ℤ, pos}
+use Rattle.bits.specs.Signed.{signed, pattern, addS}
+use Rattle.gorilla.specs.Rows.{widths, decoded}
+use Rattle.gorilla.specs.Parser.{Read, read, refused, Reader, _>>=_, _>>_, give, require, takeBits, align}
+use Rattle.gorilla.specs.BitList.{bitsOf}
+
+-- 6: no bit of a code is there; 7: its prefix is cut off
+unfoldable pub cutNumber : ℕ → ℕ
+cutNumber zero = 6
+cutNumber (suc n) = 7
+
+-- ones up to the first zero or the fourth one: n are counted, and at most k more count
+unfoldable pub countOnes : ℕ → ℕ → ℕ → ℕ → Reader ℕ
+countOnes a i zero n bs = read n bs
+countOnes a i (suc k) n [] = refused (cutNumber n ∷ a ∷ i ∷ [])
+countOnes a i (suc k) n (zero ∷ bs) = read n bs
+countOnes a i (suc k) n (suc b ∷ bs) = countOnes a i k (n + 1) bs
+
+-- the difference of deltas of index i of array a
+unfoldable pub readCode : ℕ → ℕ → Reader ℤ
+readCode a i = do
+  n ← countOnes a i 4 0
+  v ← takeBits (getD widths n 0) (8 ∷ a ∷ i ∷ getD widths n 0 ∷ [])
+  give (decoded (getD widths n 0) v)
+
+-- those of k indices, from i on
+unfoldable pub readCodes : ℕ → ℕ → ℕ → Reader (List ℤ)
+readCodes a zero i = give []
+readCodes a (suc k) i = do
+  d ← readCode a i
+  ds ← readCodes a k (i + 1)
+  give (d ∷ ds)
+
+-- the values that differences of deltas lead to, after the value p and the delta e
+unfoldable pub valuesAfter : ℤ → ℤ → List ℤ → List ℤ
+valuesAfter p e [] = []
+valuesAfter p e (d ∷ ds) = addS p (addS e d) ∷ valuesAfter (addS p (addS e d)) (addS e d) ds
+
+-- n values
+unfoldable pub readValues : ℕ → ℕ → Reader (List ℤ)
+readValues a zero = give []
+readValues a (suc k) = do
+  v ← takeBits 64 (5 ∷ a ∷ [])
+  ds ← readCodes a k 1
+  give (signed v ∷ valuesAfter (signed v) (pos 0) ds)
+
+-- array a; room says whether a count finds room
+unfoldable pub readArray : ℕ → (ℕ → Bool) → Reader (List ℤ)
+readArray a room = do
+  n ← takeBits 32 (4 ∷ a ∷ [])
+  require (room n) (10 ∷ a ∷ [])
+  readValues a n
+
+-- a count of four bytes, the least significant first
+unfoldable pub leCount : List ℕ → Reader ℕ
+leCount l = do
+  b₀ ← takeBits 8 l
+  b₁ ← takeBits 8 l
+  b₂ ← takeBits 8 l
+  b₃ ← takeBits 8 l
+  give (b₀ + 256 * (b₁ + 256 * (b₂ + 256 * b₃)))
+
+-- what was read, and the next whole byte
+abbrev pub thenAlign : {A : Type 0} → Read A → Read A
+thenAlign (read x bs) = read x (drop (length bs % 8) bs)
+thenAlign (refused l) = refused l
+
+-- array a of an image whose header says n
+unfoldable pub readPart : ℕ → (ℕ → Bool) → ℕ → Reader (List ℤ)
+readPart a room n = do
+  xs ← readArray a room
+  require (eqb (length xs) n) (9 ∷ a ∷ [])
+  align
+  give xs
+
+pub record Pairs : Type 0 where
+  pub seqs : List ℕ
+  pub secs : List ℤ
+
+unfoldable pub readPairs : (ℕ → Bool) → Reader Pairs
+readPairs room = do
+  v ← takeBits 8 (1 ∷ [])
+  require (eqb v 1) (2 ∷ v ∷ [])
+  n ← leCount (3 ∷ [])
+  seqs ← readPart 0 room n
+  secs ← readPart 1 room n
+  give (record { seqs = map pattern seqs; secs = secs })
+
+-- an image: its pairs, and the bits of the bytes after it
+abbrev pub readImage : (ℕ → Bool) → List ℕ → Read Pairs
+readImage room bytes = readPairs room (bitsOf bytes)
