@@ -1,5 +1,8 @@
-// A reader of bits: the caller's bytes, and a place in them. A reader is a value, so that a read moves no place:
-// its answer tells the place after the bits, and `moved` gives the reader that stands there.
+// A reader of bits: the caller's bytes, and a place in them. A reader is a value, so a read moves no place: its
+// answer tells the place after the bits, and `moved` gives the reader that stands there.
+//
+// A call over a struct that holds a reference is proved by a walk of its MIR, so these are few and thin: the work
+// is `read_bits`. Who calls `read_from`, which has plain parameters, needs no walk.
 ghost use mathlib.Core.Path.{_≡_};
 ghost use Rattle.bits.specs.Read.{toldRead, readRule};
 ghost use Rattle.bits.specs.Reader.{placeIn};
@@ -51,7 +54,7 @@ impl<'a> BitReader<'a> {
     }
 }
 
-// A read through a reader, for callers that hold none.
+// A read through a reader, for a caller that holds none.
 pub fn read_from(s: &[u8], at: Place, width: u8) -> BitsRead
     ensures { λ r. ⌜ toldRead r ≡ readRule (now (s .entry)) at width ⌝ }
 {

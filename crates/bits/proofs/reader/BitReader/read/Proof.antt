@@ -40,7 +40,6 @@ use denote.Triple.Walked.{says, Stays, stay-none, walkOf, goes-none, Walks, ends
 use denote.Exit.{yes}
 use denote.Triple.Clauses.{ensured, lasts}
 use Rattle.bits.specs.Read.{Piece, toldRead, readRule}
-use Rattle.bits.specs.Reader.{placeIn}
 use Rattle.bits.specs.Told.{Told}
 use Rattle.bits.specs.declared.Place.{Place}
 use Rattle.bits.specs.declared.reader.BitReader.{BitReader}
@@ -78,7 +77,7 @@ module _ {M : Type 1} (𝓤 : URA M) (H : Heap 𝓤) (A : Atoms 𝓤) (W : Given
   v = sliceVal (d .buf .ptr) (length (d .buf .now))
 
   abbrev at : Place
-  at = placeIn d
+  at = record { byte = d .«byte_pos»; bit = d .«bit_pos» }
 
   abbrev found : Told Piece
   found = readRule (now (d .buf)) at k
