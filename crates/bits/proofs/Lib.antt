@@ -6,3 +6,4 @@ pub mod Wrapping
 pub mod Widths
 pub mod Unique
 pub mod Cases
+mod Held

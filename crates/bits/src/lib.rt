@@ -6,10 +6,13 @@
 // answer, whose number in document 01 specs/ lists, and a refused call changes nothing.
 pub mod inner; // inner.rt: the steps, for our own crates: each has a `requires`
 mod read; // read.rt: a read of bits
+mod reader; // reader.rt: a reader, which holds the bytes and a place
 mod signed; // signed.rt: two's complement, wrapping sums, sign extension
 mod write; // write.rt: a write of bits
 
 pub use read::read_bits;
+pub use reader::BitReader;
+pub use reader::read_from;
 pub use signed::as_signed;
 pub use signed::as_unsigned;
 pub use signed::sign_extend;
