@@ -1,0 +1,34 @@
+-- A check depends on the state, on the kept pairs and on whether the arrays have the room, not on what stands past the count.
+use mathlib.Core.Path.{_≡_, refl, sym, ap, _∙_}
+use mathlib.Core.Bool.{Bool, true, false, cond, not}
+use mathlib.Core.List.{List}
+use Prim.Native.Nat.{ℕ, zero, suc, _-_, _≤_, _<_}
+use native.Mathlib.Omega.{arith}
+use borrow.Author.Tests.{eqb-false}
+use lib.Dec.{ltb, eqb}
+use lib.IntN.{ℤ, pos}
+use lib.ListN.{length, getD, take}
+use lib.Seq.{getD-take}
+use lib.Signed.{ltZ}
+use Rattle.tracker.specs.Domain.{outside}
+use Rattle.tracker.specs.First.{first}
+use Rattle.tracker.specs.Settings.{roomOf}
+use Rattle.tracker.specs.Table.{kept, drops, seqDrops, secDrops, secOutside, lastMisplaced, lastOutside, lastBelow, disagrees, pairsOf, checkOf}
+use Rattle.tracker.specs.declared.SequenceTracker.{SequenceTracker}
+use Rattle.tracker.specs.declared.LastRecorded.{LastRecorded}
+use Rattle.tracker.specs.declared.LastRecorded.the-variants.{Never, At}
+use Rattle.tracker.proofs.First.{first-same}
+
+-- an element below n is told by the first n
+pub kept-at : {A : Type 0} (n : ℕ) (xs ys : List A) (i : ℕ) (d : A) → take n xs ≡ take n ys → i < n → getD xs i d ≡ getD ys i d
+kept-at n xs ys i d e l = sym (getD-take n xs i d l) ∙ ap (λ zs. getD zs i d) e ∙ getD-take n ys i d l
+
+module _ (n : ℕ) where
+  kept-drop : {K : Type 0} (lt : K → K → Bool) (d : K) (xs ys : List K) → take n xs ≡ take n ys → first (drops lt d xs) n ≡ first (drops lt d ys) n
+  kept-drop lt d xs ys e = first-same (drops lt d xs) (drops lt d ys) n (λ j l. rw (kept-at n xs ys j d e l, kept-at n xs ys (j - 1) d e (omega arith)))
+
+  kept-outside : (xs ys : List ℤ) → take n xs ≡ take n ys → first (secOutside xs) n ≡ first (secOutside ys) n
+  kept-outside xs ys e = first-same (secOutside xs) (secOutside ys) n (λ j l. rw (kept-at n xs ys j (pos 0) e l))
+
+  pub pairs-kept : (seqs seqs′ : List ℕ) (secs secs′ : List ℤ) → take n seqs ≡ take n seqs′ → take n secs ≡ take n secs′ → pairsOf seqs secs n ≡ pairsOf seqs′ secs′ n
+  pairs-kept seqs seqs′ secs secs′ e f = rw (kept-drop ltb 0 seqs seqs′ e, kept-drop ltZ (pos 0) secs secs′ f, kept-outside secs secs′ f)
