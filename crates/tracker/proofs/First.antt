@@ -1,5 +1,5 @@
 -- The one law on the first index at which a test holds: it is i, where the test fails below i, and holds at i if i is below n.
-use mathlib.Core.Path.{_≡_, refl, sym, ap, _∙_}
+use mathlib.Core.Path.{_≡_, refl}
 use mathlib.Core.Logic.{⊎-elim}
 use mathlib.Core.Bool.{Bool, true, false, cond}
 use Prim.Native.Nat.{ℕ, zero, suc, _+_, _≤_, _<_}
@@ -49,6 +49,7 @@ first-out t n h j l = go (t j) refl
 
 -- tests that agree below n have the same first index
 pub first-same : (t u : ℕ → Bool) (n : ℕ) → ((j : ℕ) → j < n → t j ≡ u j) → first t n ≡ first u n
+unfolding firstFrom
 first-same t u n same = from-same n 0 (λ j _ l. same j (omega arith))
   where
     from-same : (m k : ℕ) → ((j : ℕ) → k ≤ j → j < k + m → t j ≡ u j) → firstFrom t k m ≡ firstFrom u k m

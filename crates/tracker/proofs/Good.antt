@@ -1,5 +1,5 @@
 -- What a table has for which the rules 14, 11, 12 and 13 are passed, and the other way round.
-use mathlib.Core.Path.{_≡_, refl, sym}
+use mathlib.Core.Path.{_≡_, refl}
 use mathlib.Core.Bool.{Bool, true, false, cond, _||_}
 use mathlib.Core.List.{List, [], _∷_}
 use Prim.Native.Nat.{ℕ, _≤_, _<_}
@@ -11,7 +11,7 @@ use lib.IntN.{ℤ}
 use lib.ListN.{length}
 use Rattle.bits.specs.Told.{gave}
 use Rattle.tracker.specs.First.{first}
-use Rattle.tracker.specs.Settings.{badSettings, roomOf}
+use Rattle.tracker.specs.Settings.{roomOf}
 use Rattle.tracker.specs.Table.{seqDrops, secDrops, secOutside, lastMisplaced, lastOutside, lastBelow, disagrees, pairsOf, checkOf}
 use Rattle.tracker.specs.declared.SequenceTracker.{SequenceTracker}
 use Rattle.tracker.proofs.Bools.{neither, passed}

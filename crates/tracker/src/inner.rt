@@ -8,8 +8,11 @@ ghost use Rattle.tracker.specs.First.{first};
 ghost use Rattle.tracker.specs.Refusal.{toldCheck};
 ghost use Rattle.tracker.specs.Settings.{badSettings, roomOf, freshTable};
 ghost use Rattle.tracker.specs.Table.{seqDrops, secDrops, secOutside, pairsOf};
+use crate::Checked;
+use crate::LastRecorded;
+use crate::Refusal;
+use crate::SequenceTracker;
 use crate::steps;
-use crate::{Checked, LastRecorded, Refusal, SequenceTracker};
 
 const MAX_CAPACITY: u32 = 8192;
 
@@ -42,15 +45,16 @@ pub fn bad_settings(capacity: u32, interval_secs: u64) -> bool
 pub fn room(capacity: u32) -> usize
     ensures { λ r. ⌜ r ≡ roomOf capacity ⌝ }
 {
-    if capacity == 0 {
-        1
-    } else {
-        capacity as usize
-    }
+    if capacity == 0 { 1 } else { capacity as usize }
 }
 
 // The one place where a state is built that no offer has changed.
-pub fn fresh(capacity: u32, interval_secs: u64, count: usize, last_recorded_ts: LastRecorded) -> SequenceTracker
+pub fn fresh(
+    capacity: u32,
+    interval_secs: u64,
+    count: usize,
+    last_recorded_ts: LastRecorded,
+) -> SequenceTracker
     ensures { λ r. ⌜ r ≡ freshTable capacity «interval_secs» count «last_recorded_ts» ⌝ }
 {
     SequenceTracker {

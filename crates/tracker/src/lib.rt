@@ -60,7 +60,12 @@ pub const DEFAULT_INTERVAL_SECS: u64 = 60;
 pub fn new() -> SequenceTracker
     ensures { λ r. ⌜ r ≡ newTable ⌝ }
 {
-    inner::fresh(DEFAULT_CAPACITY, DEFAULT_INTERVAL_SECS, 0, LastRecorded::Never)
+    inner::fresh(
+        DEFAULT_CAPACITY,
+        DEFAULT_INTERVAL_SECS,
+        0,
+        LastRecorded::Never,
+    )
 }
 
 // An empty table with the settings named, if they are valid.

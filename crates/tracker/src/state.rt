@@ -4,8 +4,9 @@ ghost use mathlib.Core.Bool.{_||_};
 ghost use Prim.Native.Nat.{_≤_};
 ghost use lib.ListN.{length};
 ghost use Rattle.tracker.specs.Table as rules;
+use crate::LastRecorded;
+use crate::SequenceTracker;
 use crate::inner;
-use crate::{LastRecorded, SequenceTracker};
 
 fn last_wrong(last: LastRecorded, secs: &[i64], n: usize) -> bool
     requires { ⌜ n ≤ length (now secs) ⌝ }

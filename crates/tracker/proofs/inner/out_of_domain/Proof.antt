@@ -1,14 +1,11 @@
 use borrow.Author.Needs.{needs}
-use mathlib.Core.Path.{_≡_, sym, _∙_}
+use mathlib.Core.Path.{_≡_}
 use mathlib.Core.Bool.{true, false}
-use lib.IntN.{pos, negsuc}
+use lib.IntN.{negsuc}
 use lib.Signed.{ltZ}
 use mir.Facts.{toZ-ofZ}
 use Rattle.tracker.proofs.inner.out_of_domain.Statement.{statement}
 use Rattle.tracker.proofs.inner.out_of_domain.Tie as tie
-use Rattle.tracker.proofs.inner.out_of_domain.Reads as reads
-use Rattle.tracker.proofs.inner.out_of_domain.Lts as lts
-use Rattle.tracker.proofs.steps.is_below.Reads as is-below-reads
 
 is-below-requires : tie.Need-is-below-requires
 is-below-requires c κs = search needs

@@ -1,8 +1,6 @@
 use borrow.Author.Tests.{eq-eqb, ne-eqb}
 use Rattle.tracker.proofs.inner.room.Statement.{statement}
 use Rattle.tracker.proofs.inner.room.Tie as tie
-use Rattle.tracker.proofs.inner.room.Reads as reads
-use Rattle.tracker.proofs.inner.room.Lts as lts
 
 returns : tie.Need-returns
 returns c = simp (eq-eqb _ _ (c .if1 .taken))

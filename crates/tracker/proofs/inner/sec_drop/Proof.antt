@@ -1,14 +1,11 @@
 use borrow.Author.Needs.{needs}
-use borrow.Author.Count.{below-more, below-none}
+use borrow.Author.Count.{below-more}
 use mathlib.Core.Path.{_≡_, sym, _∙_}
-use mathlib.Core.Bool.{true, false}
+use mathlib.Core.Bool.{false}
 use Prim.Native.Nat.{ℕ, _≤_, _<_, _-_}
 use native.Mathlib.Omega.{arith}
-use lib.ListN.{getD}
 use Rattle.tracker.specs.Table.{secDrops}
 use Rattle.tracker.proofs.First.{first-hit, first-none}
-use Rattle.tracker.proofs.Order.{ltZ-irrefl}
-use lib.IntN.{pos}
 use Rattle.tracker.proofs.inner.sec_drop.Statement.{statement}
 use Rattle.tracker.proofs.inner.sec_drop.Tie as tie
 

@@ -1,11 +1,8 @@
 use native.Mathlib.Omega.{arith}
-use Prim.Native.Nat.{ℕ, _+_, _-_, _≤_, _<_}
-use mathlib.Core.Path.{_≡_, refl, sym, ap, _∙_}
-use mathlib.Core.Bool.{Bool, true, false, not}
-use lib.ListN.{length, getD}
-use lib.IntN.{pos}
-use Rattle.tracker.specs.Table.{seqDrops, secDrops, secOutside}
-use Rattle.tracker.proofs.Bools.{true-false}
+use Prim.Native.Nat.{ℕ, _-_, _≤_, _<_}
+use mathlib.Core.Path.{_≡_, sym, _∙_}
+use mathlib.Core.Bool.{false}
+use Rattle.tracker.specs.Table.{secOutside}
 use borrow.Author.Needs.{needs}
 use native.Mathlib.Nat.{le-refl}
 use borrow.Author.Tests.{not-true}
@@ -14,9 +11,6 @@ use Rattle.tracker.proofs.First.{first-hit, first-none}
 use Rattle.tracker.proofs.Fours.{between}
 use Rattle.tracker.proofs.inner.sec_outside.Statement.{statement}
 use Rattle.tracker.proofs.inner.sec_outside.Tie as tie
-use Rattle.tracker.proofs.inner.sec_outside.Reads as reads
-use Rattle.tracker.proofs.inner.sec_outside.Lts as lts
-use Rattle.tracker.proofs.steps.sec_outside_at.Reads as sec-outside-at-reads
 
 abbrev Inv-loop : tie.InvT-loop
 Inv-loop secs n i₀ i = (0 ≤ i) × ((j : ℕ) → j < i → secOutside secs j ≡ false)

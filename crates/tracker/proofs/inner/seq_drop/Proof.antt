@@ -1,13 +1,11 @@
 use borrow.Author.Needs.{needs}
-use borrow.Author.Count.{below-more, below-none}
+use borrow.Author.Count.{below-more}
 use mathlib.Core.Path.{_≡_, sym, _∙_}
-use mathlib.Core.Bool.{true, false}
+use mathlib.Core.Bool.{false}
 use Prim.Native.Nat.{ℕ, _≤_, _<_, _-_}
 use native.Mathlib.Omega.{arith}
-use lib.ListN.{getD}
 use Rattle.tracker.specs.Table.{seqDrops}
 use Rattle.tracker.proofs.First.{first-hit, first-none}
-use Rattle.tracker.proofs.Order.{ltb-irrefl}
 use Rattle.tracker.proofs.inner.seq_drop.Statement.{statement}
 use Rattle.tracker.proofs.inner.seq_drop.Tie as tie
 

@@ -1,46 +1,59 @@
 use borrow.Author.Needs.{needs}
-use borrow.Author.Tests.{le-leb, lt-leb}
-use mathlib.Core.Path.{sym}
-use Rattle.tracker.proofs.state_good.Statement.{statement}
-use Rattle.tracker.proofs.state_good.Tie as tie
-use Rattle.tracker.proofs.state_good.Reads as reads
-use Rattle.tracker.proofs.state_good.Lts as lts
-use Rattle.tracker.proofs.last_good.Reads as last-good-reads
-use Rattle.tracker.proofs.inner.room.Reads as room-reads
+use borrow.Author.Tests.{lt-ltb, le-ltb}
+use Rattle.tracker.proofs.state.disagrees.Statement.{statement}
+use Rattle.tracker.proofs.state.disagrees.Tie as tie
+
+bad-settings-requires : tie.Need-bad-settings-requires
+bad-settings-requires c κs = search needs
 
 returns : tie.Need-returns
-returns c = simp (lt-leb _ _ (c .if1 .taken))
-
-returns-2 : tie.Need-returns-2
-returns-2 c = simp (le-leb _ _ (c .before .before .if1 .left), lt-leb _ _ (c .if2 .taken))
+returns c = rw (← c .before .bad-settings .ensures, c .if1 .taken)
 
 room-requires : tie.Need-room-requires
 room-requires c κs = search needs
 
+returns-2 : tie.Need-returns-2
+returns-2 c =
+    let room = c .before in
+    let settings = room .before in
+    rw (← settings .before .bad-settings .ensures, settings .if1 .left, ← room .room .ensures, lt-ltb _ _ (c .if2 .taken))
+
 returns-3 : tie.Need-returns-3
-returns-3 c = simp (le-leb _ _ (c .before .before .before .before .if1 .left), le-leb _ _ (c .before .before .if2 .left), sym (c .before .room .ensures), lt-leb _ _ (c .if3 .taken))
+returns-3 c =
+    let seqs = c .before in
+    let room = seqs .before in
+    let settings = room .before in
+    rw (← settings .before .bad-settings .ensures, settings .if1 .left, ← room .room .ensures, le-ltb _ _ (seqs .if2 .left), lt-ltb _ _ (c .if3 .taken))
 
 returns-4 : tie.Need-returns-4
-returns-4 c = simp (le-leb _ _ (c .before .before .before .before .before .if1 .left), le-leb _ _ (c .before .before .before .if2 .left), sym (c .before .before .room .ensures), le-leb _ _ (c .before .if3 .left), lt-leb _ _ (c .if4 .taken))
+returns-4 c =
+    let secs = c .before in
+    let seqs = secs .before in
+    let room = seqs .before in
+    let settings = room .before in
+    rw (← settings .before .bad-settings .ensures, settings .if1 .left, ← room .room .ensures, le-ltb _ _ (seqs .if2 .left), le-ltb _ _ (secs .if3 .left), lt-ltb _ _ (c .if4 .taken))
+
+last-wrong-requires : tie.Need-last-wrong-requires
+last-wrong-requires c κs = search needs
 
 returns-5 : tie.Need-returns-5
-returns-5 c = simp (le-leb _ _ (c .before .before .before .before .before .before .if1 .left), le-leb _ _ (c .before .before .before .before .if2 .left), sym (c .before .before .before .room .ensures), le-leb _ _ (c .before .before .if3 .left), le-leb _ _ (c .before .if4 .left), lt-leb _ _ (c .if5 .taken))
+returns-5 c =
+    let count = c .before in
+    let secs = count .before in
+    let seqs = secs .before in
+    let room = seqs .before in
+    let settings = room .before in
+    rw (← settings .before .bad-settings .ensures, settings .if1 .left, ← room .room .ensures, le-ltb _ _ (seqs .if2 .left), le-ltb _ _ (secs .if3 .left), le-ltb _ _ (count .if4 .left)) (c .last-wrong .ensures)
 
-last-good-requires : tie.Need-last-good-requires
-last-good-requires c κs = search needs
-
-returns-6 : tie.Need-returns-6
-returns-6 c = simp (le-leb _ _ (c .before .before .before .before .before .before .before .if1 .left), le-leb _ _ (c .before .before .before .before .before .if2 .left), sym (c .before .before .before .before .room .ensures), le-leb _ _ (c .before .before .before .if3 .left), le-leb _ _ (c .before .before .if4 .left), le-leb _ _ (c .before .if5 .left)) (c .last-good .ensures)
-
-pub state-good-spec : {M : Type 1} → statement M
-state-good-spec =
+pub disagrees-spec : {M : Type 1} → statement M
+disagrees-spec =
     tie.close
     (tie.spec
+    bad-settings-requires
     returns
-    returns-2
     room-requires
+    returns-2
     returns-3
     returns-4
-    returns-5
-    last-good-requires
-    returns-6)
+    last-wrong-requires
+    returns-5)

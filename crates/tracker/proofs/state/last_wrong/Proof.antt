@@ -1,19 +1,21 @@
 use borrow.Author.Needs.{needs}
 use borrow.Author.Tests.{eq-eqb, ne-eqb}
-use mathlib.Core.Path.{_≡_, sym, _∙_}
-use mathlib.Core.Bool.{true, false}
+use mathlib.Core.Path.{_≡_, refl, sym, _∙_}
+use mathlib.Core.Bool.{Bool, true, false, _||_}
 use Prim.Native.Nat.{_-_}
 use lib.IntN.{pos}
 use lib.ListN.{getD}
 use mir.Syntax.{w64}
 use mir.Val.{toZ, ofZ}
-use Rattle.tracker.specs.Table.{outside}
+use Rattle.tracker.specs.Domain.{outside}
 use Rattle.tracker.proofs.Order.{round}
-use Rattle.tracker.proofs.last_good.Statement.{statement}
-use Rattle.tracker.proofs.last_good.Tie as tie
-use Rattle.tracker.proofs.last_good.Reads as reads
-use Rattle.tracker.proofs.last_good.Lts as lts
-use Rattle.tracker.proofs.inner.out_of_domain.Reads as out-of-domain-reads
+use Rattle.tracker.proofs.state.last_wrong.Statement.{statement}
+use Rattle.tracker.proofs.state.last_wrong.Tie as tie
+
+-- without a last recorded second only its absence can be wrong
+alone : (b : Bool) → b ≡ b || false || false
+alone true = refl
+alone false = refl
 
 enum-told : tie.Need-enum-told
 enum-told c = search needs
@@ -44,7 +46,7 @@ shared-slice-copy-out-result : tie.Need-shared-slice-copy-out-result
 shared-slice-copy-out-result c = search needs
 
 returns-3 : tie.Need-returns-3
-returns-3 c = rw (c .enum-told .given .1)
+returns-3 c = rw (c .enum-told .given .1) (alone _)
 
 returns-4 : tie.Need-returns-4
 returns-4 c =
@@ -55,8 +57,8 @@ returns-4 c =
     let e : outside x ≡ false = rw (← r) (sym (c .before .before .out-of-domain .ensures) ∙ c .before .if2 .left) in
     rw (c .before .before .before .before .before .before .last .given .1, ne-eqb _ _ (c .before .before .before .before .if1 .left), e, r, q)
 
-pub last-good-spec : {M : Type 1} → statement M
-last-good-spec =
+pub last-wrong-spec : {M : Type 1} → statement M
+last-wrong-spec =
     tie.close
     (tie.spec
     enum-told

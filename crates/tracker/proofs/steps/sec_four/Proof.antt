@@ -1,18 +1,11 @@
-use native.Mathlib.Omega.{arith}
-use Prim.Native.Nat.{ℕ, _+_, _-_, _≤_, _<_}
-use mathlib.Core.Path.{_≡_, refl, sym, ap, _∙_}
-use mathlib.Core.Bool.{Bool, true, false, not}
-use lib.ListN.{length, getD}
-use lib.IntN.{pos}
-use Rattle.tracker.specs.Table.{seqDrops, secDrops, secOutside}
+use mathlib.Core.Path.{refl, sym, _∙_}
+use mathlib.Core.Bool.{true}
+use Rattle.tracker.specs.Table.{secDrops}
 use Rattle.tracker.proofs.Bools.{true-false}
 use Rattle.tracker.proofs.Fours.{all-four}
 use borrow.Author.Needs.{needs}
 use Rattle.tracker.proofs.steps.sec_four.Statement.{statement}
 use Rattle.tracker.proofs.steps.sec_four.Tie as tie
-use Rattle.tracker.proofs.steps.sec_four.Reads as reads
-use Rattle.tracker.proofs.steps.sec_four.Lts as lts
-use Rattle.tracker.proofs.steps.sec_drops_at.Reads as sec-drops-at-reads
 
 sec-drops-at-requires : tie.Need-sec-drops-at-requires
 sec-drops-at-requires c κs = search needs
@@ -54,7 +47,7 @@ returns-4 c =
     let d1 = e1 .before in
     let st = d1 .before in
     λ e. all-four (secDrops (st .args .secs .now)) (st .args .i)
-        (sym (d1 .sec-drops-at .ensures) ∙ e1 .if1 .left) (sym (d2 .sec-drops-at2 .ensures) ∙ e2 .if2 .left) (sym (d3 .sec-drops-at3 .ensures) ∙ e3 .if3 .left) (sym (c .sec-drops-at4 .ensures) ∙ e)
+    (sym (d1 .sec-drops-at .ensures) ∙ e1 .if1 .left) (sym (d2 .sec-drops-at2 .ensures) ∙ e2 .if2 .left) (sym (d3 .sec-drops-at3 .ensures) ∙ e3 .if3 .left) (sym (c .sec-drops-at4 .ensures) ∙ e)
 
 pub sec-four-spec : {M : Type 1} → statement M
 sec-four-spec =

@@ -3,12 +3,9 @@ use mathlib.Core.Path.{ap, _∙_}
 use lib.IntN.{pos}
 use lib.ListN.{getD}
 use Rattle.tracker.proofs.Order.{round}
-use Rattle.tracker.specs.Table.{outside}
+use Rattle.tracker.specs.Domain.{outside}
 use Rattle.tracker.proofs.steps.sec_outside_at.Statement.{statement}
 use Rattle.tracker.proofs.steps.sec_outside_at.Tie as tie
-use Rattle.tracker.proofs.steps.sec_outside_at.Reads as reads
-use Rattle.tracker.proofs.steps.sec_outside_at.Lts as lts
-use Rattle.tracker.proofs.inner.out_of_domain.Reads as out-of-domain-reads
 
 mul-out-of-domain : tie.Need-mul-out-of-domain
 mul-out-of-domain c = search needs

@@ -1,18 +1,11 @@
-use native.Mathlib.Omega.{arith}
-use Prim.Native.Nat.{ℕ, _+_, _-_, _≤_, _<_}
-use mathlib.Core.Path.{_≡_, refl, sym, ap, _∙_}
-use mathlib.Core.Bool.{Bool, true, false, not}
-use lib.ListN.{length, getD}
-use lib.IntN.{pos}
-use Rattle.tracker.specs.Table.{seqDrops, secDrops, secOutside}
+use mathlib.Core.Path.{refl, sym, _∙_}
+use mathlib.Core.Bool.{true}
+use Rattle.tracker.specs.Table.{seqDrops}
 use Rattle.tracker.proofs.Bools.{true-false}
 use Rattle.tracker.proofs.Fours.{all-four}
 use borrow.Author.Needs.{needs}
 use Rattle.tracker.proofs.steps.seq_four.Statement.{statement}
 use Rattle.tracker.proofs.steps.seq_four.Tie as tie
-use Rattle.tracker.proofs.steps.seq_four.Reads as reads
-use Rattle.tracker.proofs.steps.seq_four.Lts as lts
-use Rattle.tracker.proofs.steps.seq_drops_at.Reads as seq-drops-at-reads
 
 seq-drops-at-requires : tie.Need-seq-drops-at-requires
 seq-drops-at-requires c κs = search needs
@@ -54,7 +47,7 @@ returns-4 c =
     let d1 = e1 .before in
     let st = d1 .before .before in
     λ e. all-four (seqDrops (st .args .seqs .now)) (st .args .i)
-        (sym (d1 .seq-drops-at .ensures) ∙ e1 .if1 .left) (sym (d2 .seq-drops-at2 .ensures) ∙ e2 .if2 .left) (sym (d3 .seq-drops-at3 .ensures) ∙ e3 .if3 .left) (sym (c .seq-drops-at4 .ensures) ∙ e)
+    (sym (d1 .seq-drops-at .ensures) ∙ e1 .if1 .left) (sym (d2 .seq-drops-at2 .ensures) ∙ e2 .if2 .left) (sym (d3 .seq-drops-at3 .ensures) ∙ e3 .if3 .left) (sym (c .seq-drops-at4 .ensures) ∙ e)
 
 pub seq-four-spec : {M : Type 1} → statement M
 seq-four-spec =

@@ -1,20 +1,16 @@
 use native.Mathlib.Omega.{arith}
-use Prim.Native.Nat.{ℕ, _+_, _-_, _≤_, _<_}
-use mathlib.Core.Path.{_≡_, refl, sym, ap, _∙_}
-use mathlib.Core.Bool.{Bool, true, false, not}
-use lib.ListN.{length, getD}
-use lib.IntN.{pos}
-use Rattle.tracker.specs.Table.{seqDrops, secDrops, secOutside}
-use Rattle.tracker.proofs.Bools.{true-false}
+use Prim.Native.Nat.{ℕ, _-_, _≤_, _<_}
+use mathlib.Core.Path.{_≡_}
+use mathlib.Core.Bool.{false}
+use lib.Dec.{ltb}
+use lib.ListN.{getD}
+use Rattle.tracker.specs.Table.{seqDrops}
 use borrow.Author.Needs.{needs}
 use borrow.Author.Count.{below-more, below-none}
-use Rattle.tracker.proofs.Order.{ltb-irrefl, ltZ-irrefl}
+use Rattle.tracker.proofs.Order.{itself, nat-order}
 use Rattle.tracker.proofs.Fours.{more-four}
 use Rattle.tracker.proofs.steps.seq_steady.Statement.{statement}
 use Rattle.tracker.proofs.steps.seq_steady.Tie as tie
-use Rattle.tracker.proofs.steps.seq_steady.Reads as reads
-use Rattle.tracker.proofs.steps.seq_steady.Lts as lts
-use Rattle.tracker.proofs.steps.seq_four.Reads as seq-four-reads
 
 abbrev Inv-loop : tie.InvT-loop
 Inv-loop seqs n i₀ i = (1 ≤ i) × ((j : ℕ) → j < i → seqDrops seqs j ≡ false) × (i ≤ 8196)
@@ -23,7 +19,7 @@ abbrev μ-loop : tie.MeasureT-loop
 μ-loop seqs n i₀ i = n - i
 
 loop-holds : tie.Need-loop-holds Inv-loop μ-loop
-loop-holds c = (omega arith, below-more _ 0 (below-none _) (ltb-irrefl (getD (c .before .args .seqs .now) 0 0)), omega arith)
+loop-holds c = (omega arith, below-more _ 0 (below-none _) (itself ltb nat-order (getD (c .before .args .seqs .now) 0 0)), omega arith)
 
 add-loop : tie.Need-add-loop Inv-loop μ-loop
 add-loop c = search needs
