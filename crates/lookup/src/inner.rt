@@ -9,9 +9,10 @@ ghost use lib.Signed.{ltZ};
 ghost use Rattle.tracker.specs.Table.{seqDrops, secDrops};
 ghost use Rattle.lookup.specs.Find.{smaller, place};
 ghost use Rattle.lookup.specs.Search.{Boundary, Falls};
-use crate::steps;
 use crate::FindOption;
-use tracker::{Second, Seq};
+use crate::steps;
+use tracker::Second;
+use tracker::Seq;
 
 // The first sequence that is not below x, or n.
 pub fn seq_lower(seqs: &[u64], n: usize, x: u64) -> usize
@@ -63,13 +64,7 @@ pub fn seq_place(seqs: &[u64], n: usize, seq: Seq, find_opt: FindOption) -> usiz
     }
     match find_opt {
         FindOption::RoundUp => lo,
-        FindOption::RoundDown => {
-            if lo == 0 {
-                n
-            } else {
-                lo - 1
-            }
-        }
+        FindOption::RoundDown => { if lo == 0 { n } else { lo - 1 } }
     }
 }
 
@@ -86,12 +81,6 @@ pub fn sec_place(secs: &[i64], n: usize, ts: Second, find_opt: FindOption) -> us
     }
     match find_opt {
         FindOption::RoundUp => lo,
-        FindOption::RoundDown => {
-            if lo == 0 {
-                n
-            } else {
-                lo - 1
-            }
-        }
+        FindOption::RoundDown => { if lo == 0 { n } else { lo - 1 } }
     }
 }

@@ -2,7 +2,12 @@
 ghost use mathlib.Core.Path.{_≡_};
 ghost use Rattle.lookup.specs.Find.{findTs, findSeq};
 ghost use Rattle.lookup.specs.Found.{toldTs, toldSeq};
-use tracker::{check, Checked, Refusal, Second, Seq, SequenceTracker};
+use tracker::Checked;
+use tracker::Refusal;
+use tracker::Second;
+use tracker::Seq;
+use tracker::SequenceTracker;
+use tracker::check;
 
 pub mod inner;
 mod steps;
@@ -26,7 +31,13 @@ pub enum FoundSeq {
 }
 
 // The second for a sequence number.
-pub fn find_ts(table: SequenceTracker, seqs: &[u64], secs: &[i64], seq: Seq, find_opt: FindOption) -> FoundTs
+pub fn find_ts(
+    table: SequenceTracker,
+    seqs: &[u64],
+    secs: &[i64],
+    seq: Seq,
+    find_opt: FindOption,
+) -> FoundTs
     ensures { λ r. ⌜ toldTs r ≡ findTs table (now (seqs .entry)) (now (secs .entry)) seq «find_opt» ⌝ }
 {
     let checked = check(table, seqs, secs);
@@ -45,7 +56,13 @@ pub fn find_ts(table: SequenceTracker, seqs: &[u64], secs: &[i64], seq: Seq, fin
 }
 
 // The sequence number for a second. Any second may be asked for: the domain binds only those that are kept.
-pub fn find_seq(table: SequenceTracker, seqs: &[u64], secs: &[i64], ts: Second, find_opt: FindOption) -> FoundSeq
+pub fn find_seq(
+    table: SequenceTracker,
+    seqs: &[u64],
+    secs: &[i64],
+    ts: Second,
+    find_opt: FindOption,
+) -> FoundSeq
     ensures { λ r. ⌜ toldSeq r ≡ findSeq table (now (seqs .entry)) (now (secs .entry)) ts «find_opt» ⌝ }
 {
     let checked = check(table, seqs, secs);
