@@ -10,7 +10,6 @@ use tracker::SequenceTracker;
 use tracker::check;
 
 pub mod inner;
-mod steps;
 
 // Which neighbour answers where no key is equal.
 pub enum FindOption {
@@ -44,9 +43,9 @@ pub fn find_ts(
     match checked {
         Checked::Good => {
             let n = table.count;
-            let p = inner::seq_place(seqs, n, seq, find_opt);
-            if p < n {
-                FoundTs::At(Second(secs[p]))
+            let at_seq = inner::seqs::place(seqs, n, seq, find_opt);
+            if at_seq < n {
+                FoundTs::At(Second(secs[at_seq]))
             } else {
                 FoundTs::Nothing
             }
@@ -69,9 +68,9 @@ pub fn find_seq(
     match checked {
         Checked::Good => {
             let n = table.count;
-            let p = inner::sec_place(secs, n, ts, find_opt);
-            if p < n {
-                FoundSeq::At(Seq(seqs[p]))
+            let at_sec = inner::secs::place(secs, n, ts, find_opt);
+            if at_sec < n {
+                FoundSeq::At(Seq(seqs[at_sec]))
             } else {
                 FoundSeq::Nothing
             }

@@ -23,8 +23,8 @@ ok c =
     let a = c .before .before .before .before .args in
     fine (a .table) (a .seqs .now) (a .secs .now) (is-good c)
 
-sec-place-requires : tie.Need-sec-place-requires
-sec-place-requires c κs = (count-secs _ _ _ (ok c .state), ok c .pairs .secs-rise)
+place-requires : tie.Need-place-requires
+place-requires c κs = (count-secs _ _ _ (ok c .state), ok c .pairs .secs-rise)
 
 mul-t13 : tie.Need-mul-t13
 mul-t13 c = omega (arith, count-seqs _ _ _ (ok (c .before .before) .state))
@@ -38,10 +38,10 @@ enum-known-checked c = search needs
 returns : tie.Need-returns
 returns c =
     let found = c .before .before in
-    rw (is-good (found .before), ← found .sec-place .ensures, lt-ltb _ _ (c .before .if1 .taken))
+    rw (is-good (found .before), ← found .place .ensures, lt-ltb _ _ (c .before .if1 .taken))
 
 returns-2 : tie.Need-returns-2
-returns-2 c = rw (is-good (c .before .before), ← c .before .sec-place .ensures, le-ltb _ _ (c .if1 .left))
+returns-2 c = rw (is-good (c .before .before), ← c .before .place .ensures, le-ltb _ _ (c .if1 .left))
 
 returns-3 : tie.Need-returns-3
 returns-3 c = rw (← c .before .before .before .check .ensures, c .before .checked .given .1)
@@ -52,7 +52,7 @@ find-seq-spec =
     (tie.spec
     check-requires
     enum-told
-    sec-place-requires
+    place-requires
     mul-t13
     shared-slice-read-t15
     enum-known-checked

@@ -26,8 +26,8 @@ ok c =
     let a = c .before .before .before .before .args in
     fine (a .table) (a .seqs .now) (a .secs .now) (is-good c)
 
-seq-place-requires : tie.Need-seq-place-requires
-seq-place-requires c κs = (count-seqs _ _ _ (ok c .state), ok c .pairs .seqs-rise)
+place-requires : tie.Need-place-requires
+place-requires c κs = (count-seqs _ _ _ (ok c .state), ok c .pairs .seqs-rise)
 
 mul-t13 : tie.Need-mul-t13
 mul-t13 c = omega (arith, count-secs _ _ _ (ok (c .before .before) .state))
@@ -43,10 +43,10 @@ returns c =
     let found = c .before .before in
     let good = found .before in
     let a = good .before .before .before .before .args in
-    rw (is-good good, ← found .seq-place .ensures, lt-ltb _ _ (c .before .if1 .taken), round (getD (a .secs .now) (found .seq-place .result) (pos 0)) (c .t15 .given))
+    rw (is-good good, ← found .place .ensures, lt-ltb _ _ (c .before .if1 .taken), round (getD (a .secs .now) (found .place .result) (pos 0)) (c .t15 .given))
 
 returns-2 : tie.Need-returns-2
-returns-2 c = rw (is-good (c .before .before), ← c .before .seq-place .ensures, le-ltb _ _ (c .if1 .left))
+returns-2 c = rw (is-good (c .before .before), ← c .before .place .ensures, le-ltb _ _ (c .if1 .left))
 
 returns-3 : tie.Need-returns-3
 returns-3 c = rw (← c .before .before .before .check .ensures, c .before .checked .given .1)
@@ -57,7 +57,7 @@ find-ts-spec =
     (tie.spec
     check-requires
     enum-told
-    seq-place-requires
+    place-requires
     mul-t13
     shared-slice-copy-out-t15
     enum-known-checked

@@ -9,8 +9,8 @@ use mir.Facts.{toZ-ofZ}
 use Rattle.lookup.specs.Find.{smaller}
 use Rattle.lookup.specs.Search.{Falls}
 use Rattle.lookup.proofs.Bound.{Bracket, start, up, down, finish}
-use Rattle.lookup.proofs.inner.sec_lower.Statement.{statement}
-use Rattle.lookup.proofs.inner.sec_lower.Tie as tie
+use Rattle.lookup.proofs.inner.secs.lower.Statement.{statement}
+use Rattle.lookup.proofs.inner.secs.lower.Tie as tie
 
 abbrev Inv-loop : tie.InvT-loop
 Inv-loop secs n x lo₀ hi₀ lo hi = Bracket (smaller ltZ (pos 0) secs (toZ w64 x)) n lo hi
@@ -31,8 +31,8 @@ sub-mid c = omega arith
 add-mid : tie.Need-add-mid Inv-loop μ-loop
 add-mid c = omega arith
 
-sec-smaller-at-requires : tie.Need-sec-smaller-at-requires Inv-loop μ-loop
-sec-smaller-at-requires c κs = omega arith
+smaller-at-requires : tie.Need-smaller-at-requires Inv-loop μ-loop
+smaller-at-requires c κs = omega arith
 
 add-lo : tie.Need-add-lo Inv-loop μ-loop
 add-lo c = omega arith
@@ -41,19 +41,19 @@ loop-less : tie.Need-loop-less Inv-loop μ-loop
 loop-less c = omega arith
 
 loop-again : tie.Need-loop-again Inv-loop μ-loop
-loop-again c = up _ _ (falling (c .before .before .before .before)) _ _ (c .before .before .before .loop .inv) _ (omega arith) (omega arith) (sym (c .before .sec-smaller-at .ensures) ∙ c .if1 .taken)
+loop-again c = up _ _ (falling (c .before .before .before .before)) _ _ (c .before .before .before .loop .inv) _ (omega arith) (omega arith) (sym (c .before .smaller-at .ensures) ∙ c .if1 .taken)
 
 loop-less-2 : tie.Need-loop-less-2 Inv-loop μ-loop
 loop-less-2 c = omega arith
 
 loop-again-2 : tie.Need-loop-again-2 Inv-loop μ-loop
-loop-again-2 c = down _ _ (falling (c .before .before .before .before)) _ _ (c .before .before .before .loop .inv) _ (omega arith) (omega arith) (sym (c .before .sec-smaller-at .ensures) ∙ c .if1 .left)
+loop-again-2 c = down _ _ (falling (c .before .before .before .before)) _ _ (c .before .before .before .loop .inv) _ (omega arith) (omega arith) (sym (c .before .smaller-at .ensures) ∙ c .if1 .left)
 
 returns : tie.Need-returns Inv-loop μ-loop
 returns c = rw (toZ-ofZ (c .before .before .fits .x)) at (finish _ _ _ _ (c .before .loop .inv) (c .loop-test .left))
 
-pub sec-lower-spec : {M : Type 1} → statement M
-sec-lower-spec =
+pub lower-spec : {M : Type 1} → statement M
+lower-spec =
     tie.close
     (tie.spec
     Inv-loop
@@ -61,7 +61,7 @@ sec-lower-spec =
     loop-holds
     sub-mid
     add-mid
-    sec-smaller-at-requires
+    smaller-at-requires
     add-lo
     loop-less
     loop-again
