@@ -7,6 +7,7 @@ use lib.Dec.{eqb}
 use lib.ListN.{getD}
 use Rattle.bits.specs.Told.{Told, gave, refused}
 use Rattle.tracker.specs.Refusal.{told, toldCheck, toldMade}
+use Rattle.tracker.specs.Settings.{newTable}
 use Rattle.tracker.specs.declared.SequenceTracker.{SequenceTracker}
 use Rattle.tracker.specs.declared.Refusal.{Refusal}
 use Rattle.tracker.specs.declared.Refusal.the-variants.{Disagrees, SequenceDrops, SecondDrops, SecondOutside, Settings, OfferedOutside, OfferedDrops}
@@ -14,6 +15,10 @@ use Rattle.tracker.specs.declared.Checked.{Checked}
 use Rattle.tracker.specs.declared.Checked.the-variants as checked
 use Rattle.tracker.specs.declared.Made.{Made}
 use Rattle.tracker.specs.declared.Made.the-variants as made
+
+-- `new` names its answer
+pub one-new : (a b : SequenceTracker) → a ≡ newTable → b ≡ newTable → a ≡ b
+one-new a b e f = e ∙ sym f
 
 -- where f can be undone, equal values come from equal ones
 pub undone : {A B : Type 0} (f : A → B) (g : B → A) → ((a : A) → g (f a) ≡ a) → (a b : A) → f a ≡ f b → a ≡ b
