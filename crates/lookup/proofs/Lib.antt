@@ -1,0 +1,6 @@
+-- Laws that belong to no one function.
+pub mod Bound
+pub mod Place
+pub mod Laws
+pub mod Unique
+mod Cases

@@ -1,0 +1,70 @@
+use Prim.Native.Nat.{_-_}
+use native.Mathlib.Omega.{arith}
+use mathlib.Core.Path.{sym, _∙_}
+use lib.IntN.{pos}
+use lib.Signed.{ltZ}
+use mir.Syntax.{w64}
+use mir.Val.{toZ, ofZ}
+use mir.Facts.{toZ-ofZ}
+use Rattle.lookup.specs.Find.{smaller}
+use Rattle.lookup.specs.Search.{Falls}
+use Rattle.lookup.proofs.Bound.{Bracket, start, up, down, finish}
+use Rattle.lookup.proofs.inner.secs.lower.Statement.{statement}
+use Rattle.lookup.proofs.inner.secs.lower.Tie as tie
+
+abbrev Inv-loop : tie.InvT-loop
+Inv-loop secs n x lo₀ hi₀ lo hi = Bracket (smaller ltZ (pos 0) secs (toZ w64 x)) n lo hi
+
+abbrev μ-loop : tie.MeasureT-loop
+μ-loop secs n x lo₀ hi₀ lo hi = hi - lo
+
+-- what is required, of the number as it is read back from its bits
+falling : (c : tie.Start Inv-loop μ-loop) → Falls (smaller ltZ (pos 0) (c .args .secs .now) (toZ w64 (ofZ w64 (c .args .x)))) (c .args .n)
+falling c = rw (toZ-ofZ (c .fits .x)) (c .pre .1)
+
+loop-holds : tie.Need-loop-holds Inv-loop μ-loop
+loop-holds c = start _ _
+
+sub-mid : tie.Need-sub-mid Inv-loop μ-loop
+sub-mid c = omega arith
+
+add-mid : tie.Need-add-mid Inv-loop μ-loop
+add-mid c = omega arith
+
+smaller-at-requires : tie.Need-smaller-at-requires Inv-loop μ-loop
+smaller-at-requires c κs = omega arith
+
+add-lo : tie.Need-add-lo Inv-loop μ-loop
+add-lo c = omega arith
+
+loop-less : tie.Need-loop-less Inv-loop μ-loop
+loop-less c = omega arith
+
+loop-again : tie.Need-loop-again Inv-loop μ-loop
+loop-again c = up _ _ (falling (c .before .before .before .before)) _ _ (c .before .before .before .loop .inv) _ (omega arith) (omega arith) (sym (c .before .smaller-at .ensures) ∙ c .if1 .taken)
+
+loop-less-2 : tie.Need-loop-less-2 Inv-loop μ-loop
+loop-less-2 c = omega arith
+
+loop-again-2 : tie.Need-loop-again-2 Inv-loop μ-loop
+loop-again-2 c = down _ _ (falling (c .before .before .before .before)) _ _ (c .before .before .before .loop .inv) _ (omega arith) (omega arith) (sym (c .before .smaller-at .ensures) ∙ c .if1 .left)
+
+returns : tie.Need-returns Inv-loop μ-loop
+returns c = rw (toZ-ofZ (c .before .before .fits .x)) at (finish _ _ _ _ (c .before .loop .inv) (c .loop-test .left))
+
+pub lower-spec : {M : Type 1} → statement M
+lower-spec =
+    tie.close
+    (tie.spec
+    Inv-loop
+    μ-loop
+    loop-holds
+    sub-mid
+    add-mid
+    smaller-at-requires
+    add-lo
+    loop-less
+    loop-again
+    loop-less-2
+    loop-again-2
+    returns)

@@ -1,0 +1,61 @@
+use Prim.Native.Nat.{_-_}
+use native.Mathlib.Omega.{arith}
+use mathlib.Core.Path.{sym, _∙_}
+use lib.Dec.{ltb}
+use Rattle.lookup.specs.Find.{smaller}
+use Rattle.lookup.proofs.Bound.{Bracket, start, up, down, finish}
+use Rattle.lookup.proofs.inner.seqs.lower.Statement.{statement}
+use Rattle.lookup.proofs.inner.seqs.lower.Tie as tie
+
+abbrev Inv-loop : tie.InvT-loop
+Inv-loop seqs n x lo₀ hi₀ lo hi = Bracket (smaller ltb 0 seqs x) n lo hi
+
+abbrev μ-loop : tie.MeasureT-loop
+μ-loop seqs n x lo₀ hi₀ lo hi = hi - lo
+
+loop-holds : tie.Need-loop-holds Inv-loop μ-loop
+loop-holds c = start _ _
+
+sub-mid : tie.Need-sub-mid Inv-loop μ-loop
+sub-mid c = omega arith
+
+add-mid : tie.Need-add-mid Inv-loop μ-loop
+add-mid c = omega arith
+
+smaller-at-requires : tie.Need-smaller-at-requires Inv-loop μ-loop
+smaller-at-requires c κs = omega arith
+
+add-lo : tie.Need-add-lo Inv-loop μ-loop
+add-lo c = omega arith
+
+loop-less : tie.Need-loop-less Inv-loop μ-loop
+loop-less c = omega arith
+
+loop-again : tie.Need-loop-again Inv-loop μ-loop
+loop-again c = up _ _ (c .before .before .before .before .before .pre .1) _ _ (c .before .before .before .loop .inv) _ (omega arith) (omega arith) (sym (c .before .smaller-at .ensures) ∙ c .if1 .taken)
+
+loop-less-2 : tie.Need-loop-less-2 Inv-loop μ-loop
+loop-less-2 c = omega arith
+
+loop-again-2 : tie.Need-loop-again-2 Inv-loop μ-loop
+loop-again-2 c = down _ _ (c .before .before .before .before .before .pre .1) _ _ (c .before .before .before .loop .inv) _ (omega arith) (omega arith) (sym (c .before .smaller-at .ensures) ∙ c .if1 .left)
+
+returns : tie.Need-returns Inv-loop μ-loop
+returns c = finish _ _ _ _ (c .before .loop .inv) (c .loop-test .left)
+
+pub lower-spec : {M : Type 1} → statement M
+lower-spec =
+    tie.close
+    (tie.spec
+    Inv-loop
+    μ-loop
+    loop-holds
+    sub-mid
+    add-mid
+    smaller-at-requires
+    add-lo
+    loop-less
+    loop-again
+    loop-less-2
+    loop-again-2
+    returns)

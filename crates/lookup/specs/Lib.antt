@@ -1,0 +1,4 @@
+pub mod Find
+pub mod Found
+pub mod Search
+pub mod Laws

@@ -1,0 +1,5 @@
+pub mod First
+pub mod Domain
+pub mod Settings
+pub mod Refusal
+pub mod Table

@@ -1,0 +1,72 @@
+-- Rules 14, 11, 12 and 13: when a table is good.
+use Prim.Native.Nat.{ℕ, _-_}
+use mathlib.Core.Bool.{Bool, false, not, cond, _||_}
+use mathlib.Core.List.{List, [], _∷_}
+use lib.ListN.{length, getD, take}
+use lib.Dec.{ltb, eqb}
+use lib.IntN.{ℤ, pos}
+use lib.Signed.{ltZ}
+use Rattle.bits.specs.Told.{Told, gave, refused}
+use Rattle.tracker.specs.First.{first}
+use Rattle.tracker.specs.Domain.{outside}
+use Rattle.tracker.specs.Settings.{badSettings, roomOf}
+use Rattle.tracker.specs.declared.SequenceTracker.{SequenceTracker}
+use Rattle.tracker.specs.declared.LastRecorded.{LastRecorded}
+use Rattle.tracker.specs.declared.LastRecorded.the-variants.{Never, At}
+
+-- of an array, what the table keeps
+abbrev pub kept : {A : Type 0} → SequenceTracker → List A → List A
+kept table xs = take (table .count) xs
+
+-- the element at i is below the one before (the one at 0 is compared with itself)
+abbrev pub drops : {K : Type 0} → (K → K → Bool) → K → List K → ℕ → Bool
+drops lt d keys i = lt (getD keys i d) (getD keys (i - 1) d)
+
+abbrev pub seqDrops : List ℕ → ℕ → Bool
+seqDrops seqs i = drops ltb 0 seqs i
+
+abbrev pub secDrops : List ℤ → ℕ → Bool
+secDrops secs i = drops ltZ (pos 0) secs i
+
+-- the second at i is out of domain
+abbrev pub secOutside : List ℤ → ℕ → Bool
+secOutside secs i = outside (getD secs i (pos 0))
+
+-- a last recorded second present with count 0 or absent otherwise
+abbrev pub lastMisplaced : LastRecorded → ℕ → Bool
+lastMisplaced Never count = not (eqb count 0)
+lastMisplaced (At s) count = eqb count 0
+
+-- one out of domain
+abbrev pub lastOutside : LastRecorded → Bool
+lastOutside Never = false
+lastOutside (At s) = outside (s .0)
+
+-- one below the last kept second
+abbrev pub lastBelow : LastRecorded → List ℤ → ℕ → Bool
+lastBelow Never secs count = false
+lastBelow (At s) secs count = ltZ (s .0) (getD secs (count - 1) (pos 0))
+
+-- 14: settings invalid; an array shorter than the room needed; count above that room;
+-- a last recorded second present with count 0 or absent otherwise; or one out of domain or below the last kept second
+abbrev pub disagrees : SequenceTracker → List ℕ → List ℤ → Bool
+disagrees table seqs secs =
+    badSettings (table .capacity) (table .«interval_secs»)
+    || ltb (length seqs) (roomOf (table .capacity))
+    || ltb (length secs) (roomOf (table .capacity))
+    || ltb (roomOf (table .capacity)) (table .count)
+    || lastMisplaced (table .«last_recorded_ts») (table .count)
+    || lastOutside (table .«last_recorded_ts»)
+    || lastBelow (table .«last_recorded_ts») secs (table .count)
+
+-- 11, 12, 13 over the first n pairs, in this order, the lowest index told
+abbrev pub pairsOf : List ℕ → List ℤ → ℕ → Told (Unit {0})
+pairsOf seqs secs n =
+    cond (ltb (first (seqDrops seqs) n) n) (refused (11 ∷ first (seqDrops seqs) n ∷ []))
+    (cond (ltb (first (secDrops secs) n) n) (refused (12 ∷ first (secDrops secs) n ∷ []))
+    (cond (ltb (first (secOutside secs) n) n) (refused (13 ∷ first (secOutside secs) n ∷ []))
+    (gave tt)))
+
+-- 14, then 11, 12, 13 over the kept pairs
+abbrev pub checkOf : SequenceTracker → List ℕ → List ℤ → Told (Unit {0})
+checkOf table seqs secs = cond (disagrees table seqs secs) (refused (14 ∷ [])) (pairsOf seqs secs (table .count))

@@ -1,0 +1,49 @@
+// Whether state and arrays disagree.
+ghost use mathlib.Core.Path.{_≡_};
+ghost use mathlib.Core.Bool.{_||_};
+ghost use Prim.Native.Nat.{_≤_};
+ghost use lib.ListN.{length};
+ghost use Rattle.tracker.specs.Table as rules;
+use crate::LastRecorded;
+use crate::SequenceTracker;
+use crate::inner;
+
+fn last_wrong(last: LastRecorded, secs: &[i64], n: usize) -> bool
+    requires { ⌜ n ≤ length (now secs) ⌝ }
+    ensures { λ r. ⌜ r ≡ rules.lastMisplaced last n || rules.lastOutside last || rules.lastBelow last (now (secs .entry)) n ⌝ }
+{
+    match last {
+        LastRecorded::Never => n != 0,
+        LastRecorded::At(s) => {
+            if n == 0 {
+                return true;
+            }
+            let x = s.0;
+            if inner::out_of_domain(x) {
+                return true;
+            }
+            x < secs[n - 1]
+        }
+    }
+}
+
+pub(crate) fn disagrees(table: SequenceTracker, seqs: &[u64], secs: &[i64]) -> bool
+    ensures { λ r. ⌜ r ≡ rules.disagrees table (now (seqs .entry)) (now (secs .entry)) ⌝ }
+{
+    if inner::bad_settings(table.capacity, table.interval_secs) {
+        return true;
+    }
+    let r = inner::room(table.capacity);
+    if seqs.len() < r {
+        return true;
+    }
+    if secs.len() < r {
+        return true;
+    }
+    let n = table.count;
+    if n > r {
+        return true;
+    }
+    let last = table.last_recorded_ts;
+    last_wrong(last, secs, n)
+}
