@@ -1,0 +1,10 @@
+-- Laws that belong to no one function.
+pub mod Thinned
+mod Halve
+mod Difference
+pub mod Rise
+pub mod Preserved
+pub mod Alike
+pub mod Newest
+pub mod Unique
+pub mod Cases

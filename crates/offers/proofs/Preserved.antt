@@ -1,0 +1,195 @@
+-- A recorded pair leaves a good table good, and any other outcome leaves it as it was.
+use mathlib.Core.Path.{_≡_, refl, sym, ap, _∙_}
+use mathlib.Core.Logic.{⊎-elim}
+use mathlib.Core.Bool.{Bool, true, false, cond}
+use mathlib.Core.List.{List, [], _∷_}
+use Prim.Native.Nat.{ℕ, zero, suc, _-_, _≤_, _<_}
+use native.Mathlib.Nat.{eq-or-lt-of-le, le-refl}
+use native.Mathlib.Omega.{arith}
+use borrow.Author.Tests.{lt-ltb, le-ltb, ne-eqb, eqb-true, ltb-true, not-false}
+use lib.Dec.{eqb, ltb}
+use lib.IntN.{ℤ, pos, negsuc, _-ℤ_}
+use lib.ListN.{length, getD}
+use lib.Seq.{take-at}
+use lib.Signed.{ltZ}
+use Rattle.bits.specs.Told.{Told, gave, refused}
+use Rattle.bits.specs.Over.{over}
+use Rattle.tracker.specs.Domain.{outside}
+use Rattle.tracker.specs.Refusal.{ifGood}
+use Rattle.tracker.specs.Settings.{roomOf}
+use Rattle.tracker.specs.Table.{kept, secOutside, lastMisplaced, lastBelow, checkOf}
+use Rattle.tracker.specs.declared.Seq.{Seq}
+use Rattle.tracker.specs.declared.Second.{Second}
+use Rattle.tracker.specs.declared.SequenceTracker.{SequenceTracker}
+use Rattle.tracker.specs.declared.LastRecorded.{LastRecorded}
+use Rattle.tracker.specs.declared.LastRecorded.the-variants.{Never, At}
+use Rattle.tracker.proofs.Bools.{other, true-false, below-or, not-given, passed}
+use Rattle.tracker.proofs.Good.{Fine, fine, fine-again, room-is, count-seqs, count-secs}
+use Rattle.tracker.proofs.Order.{nat-order, int-order, further}
+use Rattle.offers.specs.Keep.{keptWith, countWith}
+use Rattle.offers.specs.Offer.{Outcome, recorded, skipped, tooSoon, lowSeq, stateWith, offerOf, after, stateAfter}
+use Rattle.offers.proofs.Thinned.{appended-old, appended-new, thinned-length}
+use Rattle.offers.proofs.Rise.{over-length, selected, kept-sorted, kept-below}
+
+-- a second below the last recorded one comes too soon, whatever the interval
+behind : (s l : ℤ) (k : ℕ) → ltZ s l ≡ true → ltZ (s -ℤ l) (pos k) ≡ true
+behind (pos a) (pos zero) k e = absurd (omega (arith, ltb-true a 0 e))
+behind (pos a) (pos (suc b)) k e = rw e
+behind (pos a) (negsuc b) k e = absurd (true-false false e refl)
+behind (negsuc a) (pos zero) k e = rw (lt-ltb 0 (suc a) (omega arith))
+behind (negsuc a) (pos (suc b)) k e = refl
+behind (negsuc a) (negsuc b) k e = rw (lt-ltb (suc b) (suc a) (omega (arith, ltb-true b a e)))
+
+-- the room takes what is kept, and something is kept
+count-fits : (cap n m : ℕ) → cap ≤ m → n ≤ m → 0 < m → (countWith cap n ≤ m) × (0 < countWith cap n)
+count-fits cap n m c h p =
+    ⊎-elim (λ (l : n < cap). rw (lt-ltb n cap l) (omega arith, omega arith))
+    (λ (l : cap ≤ n). rw (le-ltb n cap l) (omega arith, omega arith))
+    (below-or n cap)
+
+-- the last kept second is not above the one offered
+after-last : (last : LastRecorded) (secs : List ℤ) (n interval : ℕ) (s : ℤ) → lastMisplaced last n ≡ false → lastBelow last secs n ≡ false → tooSoon last interval s ≡ false → 0 < n → ltZ s (getD secs (n - 1) (pos 0)) ≡ false
+after-last Never secs n interval s m b t p = absurd (omega (arith, eqb-true n 0 (not-false (eqb n 0) m)))
+after-last (At l) secs n interval s m b t p =
+    further ltZ int-order (getD secs (n - 1) (pos 0)) (l .0) s b (other (ltZ s (l .0)) (λ e. true-false (ltZ (s -ℤ l .0) (pos interval)) (behind s (l .0) interval e) t))
+
+-- the last kept sequence is not above the one offered
+after-low : (seqs : List ℕ) (n q : ℕ) → lowSeq seqs n q ≡ false → 0 < n → ltb q (getD seqs (n - 1) 0) ≡ false
+after-low seqs n q h p = rw (ne-eqb n 0 (λ e. omega arith)) at h
+
+module _ (table : SequenceTracker) (seqs : List ℕ) (secs : List ℤ) (seq : Seq) (ts : Second) where
+  -- what an offer that is recorded has passed
+  pub record Taken (t : SequenceTracker) : Type 0 where
+    pub good : checkOf table seqs secs ≡ gave tt
+    pub inside : outside (ts .0) ≡ false
+    pub late : tooSoon (table .«last_recorded_ts») (table .«interval_secs») (ts .0) ≡ false
+    pub rising : lowSeq seqs (table .count) (seq .0) ≡ false
+    pub state : stateWith table (length (keptWith table seqs (seq .0))) ts ≡ t
+
+  pub taken : (t : SequenceTracker) → offerOf table seqs secs seq ts ≡ gave (recorded t) → Taken t
+  taken t h = go (checkOf table seqs secs) refl h
+    where
+      not-skipped : (b : Bool) (next : Told Outcome) → cond b (gave skipped) next ≡ gave (recorded t) → (b ≡ false) × (next ≡ gave (recorded t))
+      not-skipped true next e = absurd (let z : _≡_ {A = ℕ} 0 1 = cc in omega arith)
+      not-skipped false next e = (refl, e)
+
+      go : (checked : Told (Unit {0})) → checkOf table seqs secs ≡ checked
+          → ifGood checked
+          (cond (outside (ts .0)) (refused (16 ∷ []))
+          (cond (tooSoon (table .«last_recorded_ts») (table .«interval_secs») (ts .0)) (gave skipped)
+          (cond (lowSeq seqs (table .count) (seq .0)) (refused (17 ∷ []))
+          (gave (recorded (stateWith table (length (keptWith table seqs (seq .0))) ts))))))
+          ≡ gave (recorded t)
+          → Taken t
+      go (refused what) e h = absurd (not-given what (recorded t) h)
+      go (gave tt) e h =
+          let h16 = passed (outside (ts .0)) (16 ∷ []) _ (recorded t) h in
+          let skip = not-skipped (tooSoon (table .«last_recorded_ts») (table .«interval_secs») (ts .0)) _ (h16 .1) in
+          let h17 = passed (lowSeq seqs (table .count) (seq .0)) (17 ∷ []) _ (recorded t) (skip .1) in
+          record { good = e; inside = h16 .0; late = skip .0; rising = h17 .0; state = cc (h17 .1) }
+
+  -- what each array holds of the pair, and how many
+  module _ (t : SequenceTracker) (k : Taken t) where
+    f : Fine table seqs secs
+    f = fine table seqs secs (k .good)
+
+    m : ℕ
+    m = countWith (table .capacity) (table .count)
+
+    fit-seqs : table .count ≤ length seqs
+    fit-seqs = count-seqs table seqs secs (f .state)
+
+    fit-secs : table .count ≤ length secs
+    fit-secs = count-secs table seqs secs (f .state)
+
+    room : (m ≤ roomOf (table .capacity)) × (0 < m)
+    unfolding m
+    room =
+        let r = room-is (table .capacity) (roomOf (table .capacity)) (le-refl (roomOf (table .capacity))) in
+        count-fits (table .capacity) (table .count) (roomOf (table .capacity)) (r .0) (f .state .count-room) (r .1)
+
+    seqs-kept : length (keptWith table seqs (seq .0)) ≡ countWith (table .capacity) (table .count)
+    seqs-kept = thinned-length (table .count) seqs (seq .0) fit-seqs (table .capacity)
+
+    secs-kept : length (keptWith table secs (ts .0)) ≡ countWith (table .capacity) (table .count)
+    secs-kept = thinned-length (table .count) secs (ts .0) fit-secs (table .capacity)
+
+    seqs-length : length (over (keptWith table seqs (seq .0)) seqs) ≡ length seqs
+    unfolding m
+    seqs-length = over-length (keptWith table seqs (seq .0)) seqs (omega (arith, seqs-kept, room .0, f .state .fit-seqs))
+
+    secs-length : length (over (keptWith table secs (ts .0)) secs) ≡ length secs
+    unfolding m
+    secs-length = over-length (keptWith table secs (ts .0)) secs (omega (arith, secs-kept, room .0, f .state .fit-secs))
+
+    not-above : 0 < table .count → ltZ (ts .0) (getD secs (table .count - 1) (pos 0)) ≡ false
+    not-above = after-last (table .«last_recorded_ts») secs (table .count) (table .«interval_secs») (ts .0) (f .state .last-placed) (f .state .last-above) (k .late)
+
+    all-inside : (j : ℕ) → j < m → secOutside (over (keptWith table secs (ts .0)) secs) j ≡ false
+    unfolding m
+    all-inside j h =
+        let s = selected (pos 0) (table .count) secs (ts .0) (table .capacity) fit-secs in
+        let w : s .from j ≤ table .count = omega (arith, s .within j h) in
+        rw (s .at j h)
+        (⊎-elim (λ (e : s .from j ≡ table .count). rw (e, appended-new (table .count) secs (ts .0) fit-secs (pos 0)) (k .inside))
+        (λ (l : s .from j < table .count). rw (appended-old (table .count) secs (ts .0) fit-secs (pos 0) (s .from j) l) (f .pairs .inside (s .from j) l))
+        (eq-or-lt-of-le w))
+
+    still-fine : Fine (stateWith table m ts) (over (keptWith table seqs (seq .0)) seqs) (over (keptWith table secs (ts .0)) secs)
+    unfolding m
+    still-fine = record {
+      state = record {
+        capacity-ok = f .state .capacity-ok;
+        interval-ok = f .state .interval-ok;
+        fit-seqs = rw seqs-length (f .state .fit-seqs);
+        fit-secs = rw secs-length (f .state .fit-secs);
+        count-room = room .0;
+        last-placed = ne-eqb m 0 (λ e. omega (arith, room .1));
+        last-inside = k .inside;
+        last-above = kept-below ltZ int-order (pos 0) (table .count) secs (ts .0) (table .capacity) fit-secs (f .pairs .secs-rise) not-above (m - 1) (omega (arith, room .1));
+      };
+      pairs = record {
+        seqs-rise = kept-sorted ltb nat-order 0 (table .count) seqs (seq .0) (table .capacity) fit-seqs (f .pairs .seqs-rise) (after-low seqs (table .count) (seq .0) (k .rising));
+        secs-rise = kept-sorted ltZ int-order (pos 0) (table .count) secs (ts .0) (table .capacity) fit-secs (f .pairs .secs-rise) not-above;
+        inside = all-inside;
+      };
+    }
+
+    taken-good : checkOf t (over (keptWith table seqs (seq .0)) seqs) (over (keptWith table secs (ts .0)) secs) ≡ gave tt
+    unfolding m
+    taken-good =
+        let e : stateWith table m ts ≡ t = ap (λ (c : ℕ). stateWith table c ts) (sym seqs-kept) ∙ k .state in
+        rw (← e) (fine-again (stateWith table m ts) (over (keptWith table seqs (seq .0)) seqs) (over (keptWith table secs (ts .0)) secs) still-fine)
+
+  -- the law: with a pair recorded the table is good
+  pub recorded-good : (t : SequenceTracker) → offerOf table seqs secs seq ts ≡ gave (recorded t)
+      → checkOf t (after (gave (recorded t)) table seqs (seq .0)) (after (gave (recorded t)) table secs (ts .0)) ≡ gave tt
+  recorded-good t h = taken-good t (taken t h)
+
+  count-is : (t : SequenceTracker) → Taken t → length (keptWith table seqs (seq .0)) ≡ t .count
+  count-is t k = ap (λ (s : SequenceTracker). s .count) (k .state)
+
+  -- it keeps of both arrays what the rule says
+  pub recorded-seqs : (t : SequenceTracker) → offerOf table seqs secs seq ts ≡ gave (recorded t) → kept t (after (gave (recorded t)) table seqs (seq .0)) ≡ keptWith table seqs (seq .0)
+  recorded-seqs t h = take-at (keptWith table seqs (seq .0)) _ (t .count) (count-is t (taken t h))
+
+  pub recorded-secs : (t : SequenceTracker) → offerOf table seqs secs seq ts ≡ gave (recorded t) → kept t (after (gave (recorded t)) table secs (ts .0)) ≡ keptWith table secs (ts .0)
+  recorded-secs t h = let k = taken t h in take-at (keptWith table secs (ts .0)) _ (t .count) (secs-kept t k ∙ sym (seqs-kept t k) ∙ count-is t k)
+
+  -- and its count is this
+  pub recorded-count : (t : SequenceTracker) → offerOf table seqs secs seq ts ≡ gave (recorded t) → t .count ≡ countWith (table .capacity) (table .count)
+  recorded-count t h = let k = taken t h in sym (count-is t k) ∙ seqs-kept t k
+
+  -- whatever an offer to a good table tells, the table is good afterwards
+  pub stays-good : (o : Told Outcome) → offerOf table seqs secs seq ts ≡ o → checkOf table seqs secs ≡ gave tt
+      → checkOf (stateAfter o table) (after o table seqs (seq .0)) (after o table secs (ts .0)) ≡ gave tt
+  stays-good (gave (recorded t)) h g = recorded-good t h
+  stays-good (gave skipped) h g = g
+  stays-good (refused what) h g = g
+
+  -- and the arrays have kept their lengths
+  pub same-lengths : (o : Told Outcome) → offerOf table seqs secs seq ts ≡ o
+      → (length (after o table seqs (seq .0)) ≡ length seqs) × (length (after o table secs (ts .0)) ≡ length secs)
+  same-lengths (gave (recorded t)) h = (seqs-length t (taken t h), secs-length t (taken t h))
+  same-lengths (gave skipped) h = (refl, refl)
+  same-lengths (refused what) h = (refl, refl)

@@ -1,0 +1,136 @@
+use borrow.Author.Needs.{needs}
+use mathlib.Core.Path.{_≡_, refl, sym, _∙_}
+use mathlib.Core.Bool.{true, false}
+use native.Mathlib.Omega.{arith}
+use mir.Syntax.{w64}
+use mir.Val.{toZ, ofZ}
+use Rattle.tracker.specs.Domain.{outside}
+use Rattle.tracker.proofs.Good.{Agreed, fine, few, count-seqs, count-secs, capacity-seqs, capacity-secs}
+use Rattle.offers.specs.Offer.{tooSoon, lowSeq}
+use Rattle.offers.proofs.Thinned.{thinned-length}
+use Rattle.offers.proofs.inner.offer_good.Statement.{statement}
+use Rattle.offers.proofs.inner.offer_good.Tie as tie
+
+-- what is known at the places of the walk
+sound : (c : tie.Start) → Agreed (c .args .table) (c .args .seqs .now) (c .args .secs .now)
+sound c = fine (c .args .table) (c .args .seqs .now) (c .args .secs .now) (c .pre) .state
+
+whole : (c : tie.After-struct-told) → let x = c .before .before .args .ts .0 in toZ w64 (ofZ w64 x) ≡ x
+whole c = search needs
+
+inside : (c : tie.Else1) → outside (c .before .before .before .before .args .ts .0) ≡ false
+inside c = rw (← whole (c .before .before)) (sym (c .before .out-of-domain .ensures) ∙ c .if1 .left)
+
+late : (c : tie.Else2) → let a = c .before .before .before .before .before .before .args in tooSoon (a .table .«last_recorded_ts») (a .table .«interval_secs») (a .ts .0) ≡ false
+late c = rw (← whole (c .before .before .before .before)) (sym (c .before .too-soon .ensures) ∙ c .if2 .left)
+
+rising : (c : tie.Else3) → let a = c .before .before .before .before .before .before .before .before .before .args in lowSeq (a .seqs .now) (a .table .count) (a .seq .0) ≡ false
+rising c = sym (c .before .low-seq .ensures) ∙ c .if3 .left
+
+out-of-domain-requires : tie.Need-out-of-domain-requires
+out-of-domain-requires c κs = search needs
+
+returns : tie.Need-returns
+returns c =
+    let told = c .before .before in
+    let start = told .before .before in
+    let e : outside (start .args .ts .0) ≡ true = rw (← whole told) (sym (c .before .out-of-domain .ensures) ∙ c .if1 .taken) in
+    (rw (start .pre, e), (refl, refl))
+
+too-soon-requires : tie.Need-too-soon-requires
+too-soon-requires c κs =
+    let told = c .before .before in
+    let a = sound (told .before .before) in
+    (a .last-inside, rw (whole told) (inside c), omega (arith, a .interval-ok))
+
+returns-2 : tie.Need-returns-2
+returns-2 c =
+    let else1 = c .before .before in
+    let told = else1 .before .before in
+    let start = told .before .before in
+    let a = start .args in
+    let e : tooSoon (a .table .«last_recorded_ts») (a .table .«interval_secs») (a .ts .0) ≡ true = rw (← whole told) (sym (c .before .too-soon .ensures) ∙ c .if2 .taken) in
+    (rw (start .pre, inside else1, e), (refl, refl))
+
+low-seq-requires : tie.Need-low-seq-requires
+low-seq-requires c κs = count-seqs _ _ _ (sound (c .before .before .before .before .before .before .before))
+
+same-length : tie.Need-same-length
+same-length c = search needs
+
+returns-3 : tie.Need-returns-3
+returns-3 c =
+    let else2 = c .before .before .before in
+    let else1 = else2 .before .before in
+    let start = else1 .before .before .before .before in
+    (rw (start .pre, inside else1, late else2, sym (c .before .low-seq .ensures) ∙ c .if3 .taken), (refl, refl))
+
+cast-capacity : tie.Need-cast-capacity
+cast-capacity c = search needs
+
+seq-keep-requires : tie.Need-seq-keep-requires
+seq-keep-requires c κs =
+    let else2 = c .before .before .before .before .before in
+    let a = sound (else2 .before .before .before .before .before .before) in
+    (count-seqs _ _ _ a, capacity-seqs _ _ _ a .0, capacity-seqs _ _ _ a .1)
+
+sec-keep-requires : tie.Need-sec-keep-requires
+sec-keep-requires c κs =
+    let else3 = c .before .before .before .before .before .before in
+    let else2 = else3 .before .before .before in
+    let a = sound (else2 .before .before .before .before .before .before) in
+    (count-secs _ _ _ a, capacity-secs _ _ _ a .0, capacity-secs _ _ _ a .1)
+
+kept-count-requires : tie.Need-kept-count-requires
+kept-count-requires c κs =
+    let else3 = c .before .before .before .before .before .before .before .before in
+    let else2 = else3 .before .before .before in
+    let a = sound (else2 .before .before .before .before .before .before) in
+    omega (arith, few _ _ _ a)
+
+with-pair-requires : tie.Need-with-pair-requires
+with-pair-requires c κs = search needs
+
+same-length-2 : tie.Need-same-length-2
+same-length-2 c = search needs
+
+same-length-3 : tie.Need-same-length-3
+same-length-3 c = search needs
+
+returns-4 : tie.Need-returns-4
+returns-4 c =
+    let secs = c .before .before .before in
+    let seqs = secs .before .before .before .before in
+    let else3 = seqs .before .before .before in
+    let else2 = else3 .before .before .before in
+    let else1 = else2 .before .before in
+    let told = else1 .before .before in
+    let start = told .before .before in
+    let a = start .args in
+    let length-is = thinned-length (a .table .count) (a .seqs .now) (a .seq .0) (count-seqs _ _ _ (sound start)) (a .table .capacity) in (
+      rw (start .pre, inside else1, late else2, rising else3, length-is, ← c .before .kept-count .ensures, c .with-pair .ensures),
+      (
+        seqs .seq-keep .ensures,
+        rw (whole told) at (secs .sec-keep .ensures),
+      ),
+    )
+
+pub offer-good-spec : {M : Type 1} → statement M
+offer-good-spec =
+    tie.close
+    (tie.spec
+    out-of-domain-requires
+    returns
+    too-soon-requires
+    returns-2
+    low-seq-requires
+    same-length
+    returns-3
+    cast-capacity
+    seq-keep-requires
+    sec-keep-requires
+    kept-count-requires
+    with-pair-requires
+    same-length-2
+    same-length-3
+    returns-4)

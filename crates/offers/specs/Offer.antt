@@ -1,0 +1,66 @@
+-- An offer: what it tells, and what the two arrays hold afterwards.
+use Prim.Native.Nat.{ℕ, _-_}
+use mathlib.Core.Bool.{Bool, false, not, cond, _&&_}
+use mathlib.Core.List.{List, [], _∷_}
+use lib.Dec.{ltb, eqb}
+use lib.IntN.{ℤ, pos, _-ℤ_}
+use lib.ListN.{length, getD}
+use lib.Signed.{ltZ}
+use Rattle.bits.specs.Told.{Told, gave, refused}
+use Rattle.bits.specs.Over.{over}
+use Rattle.tracker.specs.Domain.{outside}
+use Rattle.tracker.specs.Refusal.{told, ifGood}
+use Rattle.tracker.specs.Table.{checkOf}
+use Rattle.tracker.specs.declared.Seq.{Seq}
+use Rattle.tracker.specs.declared.Second.{Second}
+use Rattle.tracker.specs.declared.SequenceTracker.{SequenceTracker}
+use Rattle.tracker.specs.declared.LastRecorded.{LastRecorded}
+use Rattle.tracker.specs.declared.LastRecorded.the-variants.{Never, At}
+use Rattle.offers.specs.Keep.{keptWith}
+use Rattle.offers.specs.declared.Offered.{Offered}
+use Rattle.offers.specs.declared.Offered.the-variants.{Recorded, Skipped, Refused}
+
+-- an offer that is not refused: recorded, with the table's new state, or skipped
+pub data Outcome : Type 0 where
+  recorded : SequenceTracker → Outcome
+  skipped : Outcome
+
+-- what `offer` tells
+abbrev pub toldOffer : Offered → Told Outcome
+toldOffer (Recorded t) = gave (recorded t)
+toldOffer Skipped = gave skipped
+toldOffer (Refused r) = refused (told r)
+
+-- a second was recorded before and this second minus it is below the interval
+abbrev pub tooSoon : LastRecorded → ℕ → ℤ → Bool
+tooSoon Never interval s = false
+tooSoon (At last) interval s = ltZ (s -ℤ last .0) (pos interval)
+
+-- a sequence below the last kept one, of n
+abbrev pub lowSeq : List ℕ → ℕ → ℕ → Bool
+lowSeq seqs n q = not (eqb n 0) && ltb q (getD seqs (n - 1) 0)
+
+-- the state with a pair recorded: how many pairs stand, and the last recorded second set
+abbrev pub stateWith : SequenceTracker → ℕ → Second → SequenceTracker
+stateWith table count ts = record { count = count; capacity = table .capacity; «interval_secs» = table .«interval_secs»; «last_recorded_ts» = At ts }
+
+-- 14, 11, 12, 13; then 16, the skip, 17; else the pair is recorded
+abbrev pub offerOf : SequenceTracker → List ℕ → List ℤ → Seq → Second → Told Outcome
+offerOf table seqs secs seq ts =
+    ifGood (checkOf table seqs secs)
+    (cond (outside (ts .0)) (refused (16 ∷ []))
+    (cond (tooSoon (table .«last_recorded_ts») (table .«interval_secs») (ts .0)) (gave skipped)
+    (cond (lowSeq seqs (table .count) (seq .0)) (refused (17 ∷ []))
+    (gave (recorded (stateWith table (length (keptWith table seqs (seq .0))) ts))))))
+
+-- what an array holds after what is told: with x recorded, what the table keeps, and past it what stood there; else what it held
+abbrev pub after : {A : Type 0} → Told Outcome → SequenceTracker → List A → A → List A
+after (gave (recorded t)) table xs x = over (keptWith table xs x) xs
+after (gave skipped) table xs x = xs
+after (refused what) table xs x = xs
+
+-- the table's state after what is told: the new one, or as it was
+abbrev pub stateAfter : Told Outcome → SequenceTracker → SequenceTracker
+stateAfter (gave (recorded t)) table = t
+stateAfter (gave skipped) table = table
+stateAfter (refused what) table = table

@@ -1,0 +1,47 @@
+// An offer to a table that is known to be good, for callers that have checked it.
+ghost use mathlib.Core.Path.{_≡_};
+ghost use Rattle.bits.specs.Told.{gave};
+ghost use Rattle.tracker.specs.Table.{checkOf};
+ghost use Rattle.offers.specs.Offer.{toldOffer, offerOf, after};
+use crate::Offered;
+use crate::keep;
+use crate::steps;
+use tracker::Refusal;
+use tracker::Second;
+use tracker::Seq;
+use tracker::SequenceTracker;
+use tracker::inner as checks;
+
+// A recorded pair leaves a good table good, so a list of offers checks its table once.
+pub fn offer_good(
+    table: SequenceTracker,
+    seqs: &mut [u64],
+    secs: &mut [i64],
+    seq: Seq,
+    ts: Second,
+) -> Offered
+    requires { ⌜ checkOf table (now seqs) (now secs) ≡ gave tt ⌝ }
+    ensures answer { λ r. ⌜ toldOffer r ≡ offerOf table (now (seqs .entry)) (now (secs .entry)) seq ts ⌝ }
+    ensures seqs { λ r. ⌜ now (seqs .exit) ≡ after (toldOffer r) table (now (seqs .entry)) (seq .0) ⌝ }
+    ensures secs { λ r. ⌜ now (secs .exit) ≡ after (toldOffer r) table (now (secs .entry)) (ts .0) ⌝ }
+{
+    let q = seq.0;
+    let s = ts.0;
+    if checks::out_of_domain(s) {
+        return Offered::Refused(Refusal::OfferedOutside);
+    }
+    let last = table.last_recorded_ts;
+    if steps::too_soon(last, table.interval_secs, s) {
+        return Offered::Skipped;
+    }
+    let n = table.count;
+    if steps::low_seq(seqs, n, q) {
+        return Offered::Refused(Refusal::OfferedDrops);
+    }
+    let capacity = table.capacity as usize;
+    keep::seq_keep(seqs, n, capacity, q);
+    keep::sec_keep(secs, n, capacity, s);
+    let count = steps::kept_count(n, capacity);
+    let grown = steps::with_pair(table, count, ts);
+    Offered::Recorded(grown)
+}

@@ -1,0 +1,38 @@
+// One offer to a table: a pair is recorded, skipped or refused.
+ghost use mathlib.Core.Path.{_≡_};
+ghost use Rattle.offers.specs.Offer.{toldOffer, offerOf, after};
+use tracker::Checked;
+use tracker::Refusal;
+use tracker::Second;
+use tracker::Seq;
+use tracker::SequenceTracker;
+use tracker::check;
+
+pub mod inner;
+mod keep;
+mod steps;
+
+pub enum Offered {
+    Recorded(SequenceTracker),
+    Skipped,
+    Refused(Refusal),
+}
+
+// Offers a pair to the table: the table is checked first.
+pub fn offer(
+    table: SequenceTracker,
+    seqs: &mut [u64],
+    secs: &mut [i64],
+    seq: Seq,
+    ts: Second,
+) -> Offered
+    ensures answer { λ r. ⌜ toldOffer r ≡ offerOf table (now (seqs .entry)) (now (secs .entry)) seq ts ⌝ }
+    ensures seqs { λ r. ⌜ now (seqs .exit) ≡ after (toldOffer r) table (now (seqs .entry)) (seq .0) ⌝ }
+    ensures secs { λ r. ⌜ now (secs .exit) ≡ after (toldOffer r) table (now (secs .entry)) (ts .0) ⌝ }
+{
+    let checked = check(table, seqs, secs);
+    match checked {
+        Checked::Good => inner::offer_good(table, seqs, secs, seq, ts),
+        Checked::Refused(why) => Offered::Refused(why),
+    }
+}
