@@ -1,0 +1,67 @@
+-- What the steps below the public calls answer. No public statement cites this file.
+use Prim.Native.Nat.{ℕ, zero, suc, _*_, _^_, _≤_, _<_}
+use mathlib.Core.Path.{_≡_}
+use mathlib.Core.Bool.{Bool, true}
+use mathlib.Core.List.{List, [], _∷_}
+use lib.Dec.{leb}
+use lib.IntN.{ℤ, pos}
+use lib.ListN.{drop, length}
+use Rattle.bits.specs.declared.Place.{Place}
+use Rattle.gorilla.specs.Array.{arrayNo}
+use Rattle.gorilla.specs.declared.Array.{Array}
+use Rattle.gorilla.specs.BitList.{bitsOf}
+use Rattle.gorilla.specs.Parser.{Read, read, refused, isRead, readOr}
+use Rattle.gorilla.specs.Places.{bitsFrom}
+use Rattle.gorilla.specs.Reading.{readCode, readCodes, valuesAfter}
+use Rattle.gorilla.specs.Steps.{followed}
+use Rattle.arrays.specs.Refusal.{numbers}
+use Rattle.arrays.specs.declared.prefix.Prefix.{Prefix}
+use Rattle.arrays.specs.declared.prefix.Prefix.the-variants as p
+use Rattle.arrays.specs.declared.code.CodeRead.{CodeRead}
+use Rattle.arrays.specs.declared.code.CodeRead.the-variants as c
+use Rattle.arrays.specs.declared.scan.Scanned.{Scanned}
+use Rattle.arrays.specs.declared.scan.Scanned.the-variants as s
+use Rattle.arrays.specs.declared.array.ArrayScan.{ArrayScan}
+use Rattle.arrays.specs.declared.array.ArrayScan.the-variants as y
+use Rattle.arrays.specs.declared.fill.Cursor.{Cursor}
+
+-- ---- answers as what a reader gives, in the bytes xs
+abbrev pub toldPrefix : List ℕ → Prefix → Read ℕ
+toldPrefix xs (p.Ones n q) = read n (bitsFrom xs q)
+toldPrefix xs (p.Refused r) = refused (numbers r)
+
+abbrev pub toldCode : List ℕ → CodeRead → Read ℤ
+toldCode xs (c.Diff d q) = read d (bitsFrom xs q)
+toldCode xs (c.Refused r) = refused (numbers r)
+
+abbrev pub toldScan : List ℕ → Scanned → Read (Unit {0})
+toldScan xs (s.Done q) = read tt (bitsFrom xs q)
+toldScan xs (s.Refused r) = refused (numbers r)
+
+-- the values of array a: n of them, the first f, and the codes of the others at q
+unfoldable pub arrayAt : List ℕ → ℕ → ℕ → ℤ → Place → List ℤ
+arrayAt xs a zero f q = []
+arrayAt xs a (suc k) f q = f ∷ valuesAfter f (pos 0) (readOr [] (readCodes a k 1 (bitsFrom xs q)))
+
+abbrev pub toldArray : List ℕ → Array → ArrayScan → Read (List ℤ)
+toldArray xs a (y.Found n f q e) = read (arrayAt xs (arrayNo a) n f q) (drop (e * 8) (bitsOf xs))
+toldArray xs a (y.Refused r) = refused (numbers r)
+
+-- ---- what was found is there to be filled in
+-- the codes of n values are all there
+unfoldable pub passedAt : List ℕ → ℕ → ℕ → Place → Type 0
+passedAt xs a zero q = Unit {0}
+passedAt xs a (suc k) q = isRead (readCodes a k 1 (bitsFrom xs q)) ≡ true
+
+abbrev pub PassedArray : List ℕ → Array → ArrayScan → Type 0
+PassedArray xs a (y.Found n f q e) = passedAt xs (arrayNo a) n q × (e ≤ length xs)
+PassedArray xs a (y.Refused r) = Unit {0}
+
+-- ---- what a step asks and gives
+-- a count of 32 bits finds room that is not above max
+abbrev pub Agrees : ℕ → (ℕ → Bool) → Type 0
+Agrees max room = (n : ℕ) → n < 2 ^ 32 → room n ≡ leb n max
+
+-- the code of index i of array a leads from one cursor to the next
+abbrev pub Stepped : List ℕ → ℕ → ℕ → Cursor → Cursor → Type 0
+Stepped xs a i c r = (d : ℤ) × (read d (bitsFrom xs (r .at)) ≡ readCode a i (bitsFrom xs (c .at))) × (r .track ≡ followed (c .track) d)

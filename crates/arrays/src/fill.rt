@@ -1,0 +1,102 @@
+// The values of an array that was looked over, stored into a lent array.
+ghost use mathlib.Core.Path.{_≡_};
+ghost use mathlib.Core.Bool.{true};
+ghost use mathlib.Core.List.{map};
+ghost use Prim.Native.Nat.{_≤_};
+ghost use lib.ListN.{length};
+ghost use Rattle.bits.specs.Over.{over};
+ghost use Rattle.bits.specs.Signed.{pattern};
+ghost use Rattle.gorilla.specs.Array.{arrayNo};
+ghost use Rattle.gorilla.specs.Parser.{isRead};
+ghost use Rattle.gorilla.specs.Places.{bitsFrom};
+ghost use Rattle.gorilla.specs.Reading.{readCode};
+ghost use Rattle.arrays.specs.Steps.{arrayAt, passedAt, Stepped};
+use crate::code::CodeRead;
+use crate::code::read_code;
+use crate::scan::zero_run;
+use bits::Place;
+use gorilla::Array;
+use gorilla::Track;
+use gorilla::inner::follow;
+
+// A value, the delta that led to it, and the place of the code after it.
+pub struct Cursor {
+    pub at: Place,
+    pub track: Track,
+}
+
+// One value on, by the code of an index that is there. A code of one zero bit is the common one.
+fn step(s: &[u8], c: Cursor, array: Array, index: usize) -> Cursor
+    requires { ⌜ isRead (readCode (arrayNo array) index (bitsFrom (now s) (c .at))) ≡ true ⌝ }
+    ensures { λ r. ⌜ Stepped (now (s .entry)) (arrayNo array) index c r ⌝ }
+{
+    let at = c.at;
+    let t = c.track;
+    let z = zero_run(s, at, 1);
+    if z.n > 0 {
+        let next = z.next;
+        return Cursor {
+            at: next,
+            track: follow(t, 0),
+        };
+    }
+    match read_code(s, at, array, index) {
+        CodeRead::Diff(d, q) => Cursor {
+            at: q,
+            track: follow(t, d),
+        },
+        CodeRead::Refused(_) => c,
+    }
+}
+
+// The values of an array of seconds, and past them what stood there.
+pub fn fill_secs(s: &[u8], at: Place, count: usize, first: i64, out: &mut [i64])
+    requires { ⌜ (count ≤ length (now out)) × passedAt (now s) 1 count at ⌝ }
+    ensures { λ _. ⌜ now (out .exit) ≡ over (arrayAt (now (s .entry)) 1 count first at) (now (out .entry)) ⌝ }
+{
+    if count == 0 {
+        return;
+    }
+    out[0] = first;
+    let mut c = Cursor {
+        at: at,
+        track: Track {
+            prev: first,
+            delta: 0,
+        },
+    };
+    let mut i: usize = 1;
+    while i < count {
+        c = step(s, c, Array::Seconds, i);
+        let t = c.track;
+        let v = t.prev;
+        out[i] = v;
+        i += 1;
+    }
+}
+
+// The same of sequences, by their bit patterns.
+pub fn fill_seqs(s: &[u8], at: Place, count: usize, first: i64, out: &mut [u64])
+    requires { ⌜ (count ≤ length (now out)) × passedAt (now s) 0 count at ⌝ }
+    ensures { λ _. ⌜ now (out .exit) ≡ over (map pattern (arrayAt (now (s .entry)) 0 count first at)) (now (out .entry)) ⌝ }
+{
+    if count == 0 {
+        return;
+    }
+    out[0] = bits::as_unsigned(first);
+    let mut c = Cursor {
+        at: at,
+        track: Track {
+            prev: first,
+            delta: 0,
+        },
+    };
+    let mut i: usize = 1;
+    while i < count {
+        c = step(s, c, Array::Sequences, i);
+        let t = c.track;
+        let v = bits::as_unsigned(t.prev);
+        out[i] = v;
+        i += 1;
+    }
+}

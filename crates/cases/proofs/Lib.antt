@@ -1,0 +1,8 @@
+-- The proofs of the statements in specs/: `demand` in Run, `all-hold` in Cases.
+mod Kept
+mod Sound
+mod Reload
+mod Exact
+pub mod Run
+mod Example
+pub mod Cases

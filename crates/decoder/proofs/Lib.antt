@@ -1,0 +1,5 @@
+pub mod Header
+pub mod Lengths
+pub mod Following
+pub mod Unique
+pub mod Cases

@@ -1,0 +1,61 @@
+// The public calls. Each looks an image over before it stores or answers anything.
+ghost use mathlib.Core.Path.{_≡_};
+ghost use Prim.Native.Nat.{min};
+ghost use Rattle.decoder.specs.Decode.{toldDecode, decodeRule, seqsAfter, secsAfter, toldLen, lenRule, restRule, restFrom, onwards};
+use crate::Decoded;
+use crate::ImageLen;
+use crate::image::ImageScan;
+use crate::image::scan_image;
+use arrays::inner::fill_secs;
+use arrays::inner::fill_seqs;
+
+// The greatest count that 32 bits hold.
+const MOST: usize = 4294967295;
+
+fn least(a: usize, b: usize) -> usize
+    ensures { λ r. ⌜ r ≡ min a b ⌝ }
+{
+    if a < b { a } else { b }
+}
+
+// The pairs of an image, into two lent arrays: the list reader. Places from the count on keep what they held.
+pub fn decode(bytes: &[u8], seqs: &mut [u64], secs: &mut [i64]) -> Decoded
+    ensures answer { λ r. ⌜ toldDecode r ≡ decodeRule (now (bytes .entry)) (now (seqs .entry)) (now (secs .entry)) ⌝ }
+    ensures seqs { λ r. ⌜ now (seqs .exit) ≡ seqsAfter (now (bytes .entry)) (now (seqs .entry)) (now (secs .entry)) ⌝ }
+    ensures secs { λ r. ⌜ now (secs .exit) ≡ secsAfter (now (bytes .entry)) (now (seqs .entry)) (now (secs .entry)) ⌝ }
+{
+    let max = least(seqs.len(), secs.len());
+    match scan_image(bytes, max) {
+        ImageScan::Found(p) => {
+            let n = p.count;
+            fill_seqs(bytes, p.seq_at, n, p.seq_first, seqs);
+            fill_secs(bytes, p.sec_at, n, p.sec_first, secs);
+            Decoded::Count(n)
+        }
+        ImageScan::Refused(r) => Decoded::Refused(r),
+    }
+}
+
+// An image's length. No array is lent, so no count is too great.
+pub fn image_len(bytes: &[u8]) -> ImageLen
+    ensures { λ r. ⌜ toldLen r ≡ lenRule (now (bytes .entry)) ⌝ }
+{
+    match scan_image(bytes, MOST) {
+        ImageScan::Found(p) => ImageLen::Bytes(p.end),
+        ImageScan::Refused(r) => ImageLen::Refused(r),
+    }
+}
+
+// The part of the caller's bytes that follows the image; refused, an empty part at their end.
+pub fn rest<'a>(bytes: &'a [u8]) -> &'a [u8]
+    ensures rest { λ r. ⌜ now r ≡ restRule (now (bytes .entry)) ⌝ }
+    ensures part { λ r. ⌜ r .ptr ≡ onwards (bytes .entry .ptr) (restFrom (now (bytes .entry))) ⌝ }
+{
+    match image_len(bytes) {
+        ImageLen::Bytes(n) => &bytes[n..],
+        ImageLen::Refused(_) => {
+            let end = bytes.len();
+            &bytes[end..]
+        }
+    }
+}

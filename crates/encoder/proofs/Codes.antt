@@ -1,0 +1,174 @@
+-- The codes of an array, one value after the other: counted, written and searched. A loop over the array holds a value with
+-- its delta, t, and the index i of the value that is next. Assumes nothing.
+use Prim.Native.Nat.{ℕ, suc, _+_, _-_, _*_, _/_, _%_, _≤_, _<_}
+use mathlib.Core.Path.{_≡_, refl, sym, ap, ap₂, _∙_}
+use mathlib.Core.Bool.{Bool, true, false, cond, not}
+use mathlib.Core.List.{List, [], _∷_, _++_, append-assoc, append-nil, map}
+use native.Mathlib.Omega.{arith}
+use native.Mathlib.Numerals.{add-one}
+use lib.ListN.{length, getD, drop, length-append, drop-of-length-le}
+use lib.Seq.{drop-cons}
+use lib.IntN.{ℤ, pos}
+use Rattle.bits.specs.Place.{placeOf}
+use Rattle.bits.specs.declared.Place.{Place}
+use Rattle.bits.specs.Signed.{signed, pattern, subS}
+use Rattle.gorilla.specs.declared.Track.{Track}
+use Rattle.gorilla.specs.declared.Coded.{Coded}
+use Rattle.gorilla.specs.Rows.{strict}
+use Rattle.gorilla.specs.Steps.{advanced}
+use Rattle.gorilla.specs.BitList.{natBits}
+use Rattle.gorilla.specs.Places.{putList}
+use Rattle.gorilla.specs.Format.{codeBits, codesBits, valuesBits, arrayBits}
+use Rattle.gorilla.specs.Wide.{Wide, none, found, orElse, wideAfter, wideIn, wideOf}
+use Rattle.gorilla.proofs.Bridge.{length-natBits}
+use Rattle.gorilla.proofs.Putting.{length-code, narrow, length-putList, place-pos, place-bit, codes-done, step-length, step-put}
+use Rattle.encoder.specs.Parts.{codesOf}
+
+-- a code has at most 36 bits
+pub code-most : (d : ℤ) → length (codeBits d) ≤ 36
+code-most d = omega (arith, length-code d, narrow d)
+
+pub codes-most : (p e : ℤ) (xs : List ℤ) → length (codesBits p e xs) ≤ 36 * length xs
+unfolding codesBits
+codes-most p e [] = omega arith
+codes-most p e (x ∷ xs) =
+    let d : ℤ = subS (subS x p) e in
+    omega (arith, length-append (codeBits d) (codesBits x (subS x p) xs), code-most d, codes-most x (subS x p) xs)
+
+-- ---- an array's parts
+pub array-none : (xs : List ℤ) → length xs ≡ 0 → arrayBits xs ≡ natBits 32 0
+unfolding arrayBits valuesBits
+array-none [] h = append-nil (natBits 32 0)
+array-none (x ∷ xs) h = absurd (omega (arith, h))
+
+pub array-parts : (xs : List ℤ) → 1 ≤ length xs → arrayBits xs ≡ (natBits 32 (length xs) ++ natBits 64 (pattern (getD xs 0 (pos 0)))) ++ codesOf xs
+unfolding arrayBits valuesBits codesOf
+array-parts [] h = absurd (omega (arith, h))
+array-parts (x ∷ xs) h = sym (append-assoc (natBits 32 (length (x ∷ xs))) (natBits 64 (pattern x)) (codesBits x (pos 0) xs))
+
+pub none-length : (xs : List ℤ) → length xs ≡ 0 → length (arrayBits xs) ≡ 32
+none-length xs h = ap length (array-none xs h) ∙ length-natBits 32 0
+
+pub parts-length : (xs : List ℤ) → 1 ≤ length xs → length (arrayBits xs) ≡ 96 + length (codesOf xs)
+parts-length xs h =
+    let A : List ℕ = natBits 32 (length xs) in
+    let B : List ℕ = natBits 64 (pattern (getD xs 0 (pos 0))) in
+    omega (arith, ap length (array-parts xs h), length-append (A ++ B) (codesOf xs), length-append A B, length-natBits 32 (length xs), length-natBits 64 (pattern (getD xs 0 (pos 0))))
+
+codes-of-most : (x : ℤ) (xs : List ℤ) → length (codesOf (x ∷ xs)) ≤ 36 * length xs
+unfolding codesOf
+codes-of-most x xs = codes-most x (pos 0) xs
+
+-- at most 36 bits a value beside the head's 96
+pub array-most : (xs : List ℤ) → length (arrayBits xs) ≤ 96 + 36 * (length xs - 1)
+array-most [] = omega (arith, none-length [] refl)
+array-most (x ∷ xs) = omega (arith, parts-length (x ∷ xs) (omega arith), codes-of-most x xs)
+
+-- the codes start after the first value, and the delta before it is 0
+first-codes : (xs : List ℤ) (x : ℤ) → 1 ≤ length xs → x ≡ getD xs 0 (pos 0) → codesBits x (pos 0) (drop 1 xs) ≡ codesOf xs
+unfolding codesOf
+first-codes [] x h e = absurd (omega (arith, h))
+first-codes (y ∷ xs) x h e = ap (λ (z : ℤ). codesBits z (pos 0) xs) e
+
+-- ---- counted: the bits so far, with those of the codes that are left, are the array's
+pub record Counted (xs : List ℤ) (t : Track) (total i : ℕ) : Type 0 where
+  pub most : total ≤ 96 + 36 * i
+  pub rest : total + length (codesBits (t .prev) (t .delta) (drop i xs)) ≡ length (arrayBits xs)
+
+pub count-first : (xs : List ℤ) (x : ℤ) → 1 ≤ length xs → x ≡ getD xs 0 (pos 0) → Counted xs (record { prev = x; delta = pos 0 }) 96 1
+count-first xs x h e = record { most = omega arith; rest = ap (λ (bs : List ℕ). 96 + length bs) (first-codes xs x h e) ∙ sym (parts-length xs h) }
+
+pub count-next : (xs : List ℤ) (t : Track) (total i : ℕ) (c : Coded) (z : ℤ) (n : ℕ) → Counted xs t total i → i < length xs → c ≡ advanced t (getD xs i (pos 0)) → z ≡ c .dod → n ≡ length (codeBits z)
+    → Counted xs (c .next) (total + n) (i + 1)
+count-next xs t total i c z n k h e f g = record { most = omega (arith, code-most z, k .most); rest = omega (arith, step-length xs i t h c z e f, k .rest) }
+
+pub count-last : (xs : List ℤ) (t : Track) (total i : ℕ) → Counted xs t total i → length xs ≤ i → total ≡ length (arrayBits xs)
+count-last xs t total i k h = omega (arith, k .rest, ap length (codes-done xs i (t .prev) (t .delta) h))
+
+-- ---- written: what is left, put from p on into buf, is all of it, put from bit q of s on
+pub record Written (xs : List ℤ) (s : List ℕ) (q : ℕ) (buf : List ℕ) (p : Place) (t : Track) (i : ℕ) : Type 0 where
+  pub low : p .bit < 8
+  pub same : length buf ≡ length s
+  pub rest : p .byte * 8 + p .bit + length (codesBits (t .prev) (t .delta) (drop i xs)) ≡ q + length (codesOf xs)
+  pub puts : putList buf (p .byte * 8 + p .bit) (codesBits (t .prev) (t .delta) (drop i xs)) ≡ putList s q (codesOf xs)
+
+pub write-first : (xs : List ℤ) (s : List ℕ) (p : Place) (x : ℤ) → 1 ≤ length xs → p .bit < 8 → x ≡ getD xs 0 (pos 0)
+    → Written xs s (p .byte * 8 + p .bit) s p (record { prev = x; delta = pos 0 }) 1
+write-first xs s p x h l e = record {
+  low = l;
+  same = refl;
+  rest = ap (λ (bs : List ℕ). p .byte * 8 + p .bit + length bs) (first-codes xs x h e);
+  puts = ap (putList s (p .byte * 8 + p .bit)) (first-codes xs x h e);
+}
+
+module _ (xs : List ℤ) (s : List ℕ) (q : ℕ) (buf : List ℕ) (p : Place) (t : Track) (i : ℕ) (w : Written xs s q buf p t i) where
+  module _ (h : i < length xs) (c : Coded) (z : ℤ) (e : c ≡ advanced t (getD xs i (pos 0))) (f : z ≡ c .dod) where
+    -- the next code finds room
+    pub write-room : q + length (codesOf xs) ≤ length s * 8 → p .byte * 8 + p .bit + length (codeBits z) ≤ length buf * 8
+    write-room r = omega (arith, step-length xs i t h c z e f, w .rest, w .same)
+
+    pub write-next : (u : List ℕ) (r : Place) → r ≡ placeOf (p .byte * 8 + p .bit + length (codeBits z)) → u ≡ putList buf (p .byte * 8 + p .bit) (codeBits z)
+        → Written xs s q u r (c .next) (i + 1)
+    write-next u r g k =
+        let n : ℕ = p .byte * 8 + p .bit + length (codeBits z) in
+        let R : List ℕ = codesBits (c .next .prev) (c .next .delta) (drop (i + 1) xs) in
+        let o = place-pos n g in record {
+          low = place-bit n g;
+          same = ap length k ∙ length-putList buf (p .byte * 8 + p .bit) (codeBits z) ∙ w .same;
+          rest = omega (arith, o, step-length xs i t h c z e f, w .rest);
+          puts = ap₂ (λ (l : List ℕ) (m : ℕ). putList l m R) k o ∙ sym (step-put xs i t h c z e f buf (p .byte * 8 + p .bit)) ∙ w .puts;
+        }
+
+  pub write-last : length xs ≤ i → (p ≡ placeOf (q + length (codesOf xs))) × (buf ≡ putList s q (codesOf xs))
+  unfolding putList
+  write-last h =
+      let m : ℕ = p .byte * 8 + p .bit in
+      let d = codes-done xs i (t .prev) (t .delta) h in
+      let e : m ≡ q + length (codesOf xs) = omega (arith, ap length d, w .rest) in
+      let b : p .byte ≡ m / 8 = omega (arith, w .low) in
+      let k : p .bit ≡ m % 8 = omega (arith, w .low) in
+      (ap₂ (λ (x y : ℕ). record { byte = x; bit = y }) b k ∙ ap placeOf e, ap (putList buf m) (sym d) ∙ w .puts)
+
+-- ---- searched: the first difference that is not strict
+pub not-true : (b c : Bool) → b ≡ c → not b ≡ true → c ≡ false
+not-true true c e h = sym e ∙ sym h
+not-true false c e h = sym e
+
+pub not-false : (b c : Bool) → b ≡ c → not b ≡ false → c ≡ true
+not-false true c e h = sym e
+not-false false c e h = sym e ∙ sym h
+
+pub wide-none : (a : ℕ) (xs : List ℤ) → length xs ≡ 0 → none ≡ wideIn a xs
+unfolding wideIn
+wide-none a [] h = refl
+wide-none a (x ∷ xs) h = absurd (omega (arith, h))
+
+pub wide-first : (a : ℕ) (xs : List ℤ) (x : ℤ) → 1 ≤ length xs → x ≡ getD xs 0 (pos 0) → wideAfter a 1 x (pos 0) (drop 1 xs) ≡ wideIn a xs
+unfolding wideIn
+wide-first a [] x h e = absurd (omega (arith, h))
+wide-first a (y ∷ xs) x h e = ap (λ (z : ℤ). wideAfter a 1 z (pos 0) xs) e
+
+module _ (a : ℕ) (xs : List ℤ) (i : ℕ) (t : Track) where
+  pub wide-last : length xs ≤ i → none ≡ wideAfter a i (t .prev) (t .delta) (drop i xs)
+  unfolding wideAfter
+  wide-last h = rw (drop-of-length-le xs h)
+
+  module _ (h : i < length xs) (c : Coded) (z : ℤ) (e : c ≡ advanced t (getD xs i (pos 0))) (f : z ≡ c .dod) where
+    step : wideAfter a i (t .prev) (t .delta) (drop i xs)
+        ≡ orElse (cond (strict z) none (found a i)) (wideAfter a (i + 1) (c .next .prev) (c .next .delta) (drop (i + 1) xs))
+    unfolding wideAfter
+    step = ap (wideAfter a i (t .prev) (t .delta)) (drop-cons xs i (pos 0) h)
+        ∙ ap (λ (k : Coded). orElse (cond (strict (k .dod)) none (found a i)) (wideAfter a (i + 1) (k .next .prev) (k .next .delta) (drop (suc i) xs))) (sym e)
+        ∙ ap (λ (y : ℤ). orElse (cond (strict y) none (found a i)) (wideAfter a (i + 1) (c .next .prev) (c .next .delta) (drop (suc i) xs))) (sym f)
+        ∙ ap (λ (k : ℕ). orElse (cond (strict z) none (found a i)) (wideAfter a (i + 1) (c .next .prev) (c .next .delta) (drop k xs))) (sym (add-one i))
+
+    pub wide-next : strict z ≡ true → wideAfter a (i + 1) (c .next .prev) (c .next .delta) (drop (i + 1) xs) ≡ wideAfter a i (t .prev) (t .delta) (drop i xs)
+    wide-next s = sym (step ∙ ap (λ (b : Bool). orElse (cond b none (found a i)) (wideAfter a (i + 1) (c .next .prev) (c .next .delta) (drop (i + 1) xs))) s)
+
+    pub wide-here : strict z ≡ false → found a i ≡ wideAfter a i (t .prev) (t .delta) (drop i xs)
+    wide-here s = sym (step ∙ ap (λ (b : Bool). orElse (cond b none (found a i)) (wideAfter a (i + 1) (c .next .prev) (c .next .delta) (drop (i + 1) xs))) s)
+
+-- sequences before seconds
+pub wide-both : (seqs : List ℕ) (secs : List ℤ) (v w : Wide) → v ≡ wideIn 0 (map signed seqs) → w ≡ wideIn 1 secs → orElse v w ≡ wideOf seqs secs
+unfolding wideOf
+wide-both seqs secs v w e f = ap₂ orElse e f

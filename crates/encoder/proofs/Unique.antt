@@ -1,0 +1,88 @@
+-- No second outcome fits: answers of which the same is told are the same. Assumes nothing.
+use Prim.Native.Nat.{ℕ}
+use mathlib.Core.Path.{_≡_, refl, sym, ap, _∙_}
+use mathlib.Core.List.{List, [], _∷_}
+use native.Mathlib.Omega.{arith}
+use lib.ListN.{length}
+use lib.IntN.{ℤ}
+use Rattle.bits.specs.Told.{Told}
+use Rattle.bits.proofs.Unique.{given-not-refused, same-list}
+use Rattle.gorilla.specs.Array.{arrayNo}
+use Rattle.gorilla.specs.declared.Array.{Array}
+use Rattle.gorilla.specs.declared.Array.the-variants.{Sequences, Seconds}
+use Rattle.encoder.specs.Encode.{told, toldLen, toldEncode, lenRule, encodeRule, strictRule, encodedIn}
+use Rattle.encoder.specs.declared.Refusal.{Refusal}
+use Rattle.encoder.specs.declared.Refusal.the-variants as rv
+use Rattle.encoder.specs.declared.EncodedLen.{EncodedLen}
+use Rattle.encoder.specs.declared.EncodedLen.the-variants as lv
+use Rattle.encoder.specs.declared.Encoded.{Encoded}
+use Rattle.encoder.specs.declared.Encoded.the-variants as ev
+
+pub array-told : (a b : Array) → arrayNo a ≡ arrayNo b → a ≡ b
+array-told Sequences Sequences h = refl
+array-told Sequences Seconds h = absurd (omega arith)
+array-told Seconds Sequences h = absurd (omega arith)
+array-told Seconds Seconds h = refl
+
+-- the numbers of the refusals differ
+abbrev number : List ℕ → ℕ
+number [] = 0
+number (n ∷ l) = n
+
+apart : {X : Type 0} {k l : List ℕ} → k ≡ l → (number k ≡ number l → ⊥) → X
+apart h f = absurd (f (ap number h))
+
+pub refusal-told : (a b : Refusal) → told a ≡ told b → a ≡ b
+refusal-told rv.LengthsDiffer rv.LengthsDiffer h = refl
+refusal-told rv.LengthsDiffer rv.TooMany h = apart h (λ e. omega arith)
+refusal-told rv.LengthsDiffer (rv.Wide a i) h = apart h (λ e. omega arith)
+refusal-told rv.LengthsDiffer (rv.Room n) h = apart h (λ e. omega arith)
+refusal-told rv.TooMany rv.LengthsDiffer h = apart h (λ e. omega arith)
+refusal-told rv.TooMany rv.TooMany h = refl
+refusal-told rv.TooMany (rv.Wide a i) h = apart h (λ e. omega arith)
+refusal-told rv.TooMany (rv.Room n) h = apart h (λ e. omega arith)
+refusal-told (rv.Wide a i) rv.LengthsDiffer h = apart h (λ e. omega arith)
+refusal-told (rv.Wide a i) rv.TooMany h = apart h (λ e. omega arith)
+refusal-told (rv.Wide a i) (rv.Wide b j) h =
+    let n : arrayNo a ≡ arrayNo b = cc in
+    let e : a ≡ b = array-told a b n in
+    cc
+refusal-told (rv.Wide a i) (rv.Room n) h = apart h (λ e. omega arith)
+refusal-told (rv.Room n) rv.LengthsDiffer h = apart h (λ e. omega arith)
+refusal-told (rv.Room n) rv.TooMany h = apart h (λ e. omega arith)
+refusal-told (rv.Room n) (rv.Wide a i) h = apart h (λ e. omega arith)
+refusal-told (rv.Room n) (rv.Room m) h = cc
+
+pub len-told : (a b : EncodedLen) → toldLen a ≡ toldLen b → a ≡ b
+len-told (lv.Bytes n) (lv.Bytes m) h = cc
+len-told (lv.Bytes n) (lv.Refused r) h = given-not-refused h
+len-told (lv.Refused r) (lv.Bytes m) h = given-not-refused (sym h)
+len-told (lv.Refused r) (lv.Refused q) h = ap lv.Refused (refusal-told r q (same-list h))
+
+pub encode-told : (a b : Encoded) → toldEncode a ≡ toldEncode b → a ≡ b
+encode-told (ev.Written n) (ev.Written m) h = cc
+encode-told (ev.Written n) (ev.Refused r) h = given-not-refused h
+encode-told (ev.Refused r) (ev.Written m) h = given-not-refused (sym h)
+encode-told (ev.Refused r) (ev.Refused q) h = ap ev.Refused (refusal-told r q (same-list h))
+
+-- `encoded_len`
+pub one-len : (seqs : List ℕ) (secs : List ℤ) (a b : EncodedLen) → toldLen a ≡ lenRule seqs secs → toldLen b ≡ lenRule seqs secs → a ≡ b
+one-len seqs secs a b h k = len-told a b (h ∙ sym k)
+
+-- an answer and a buffer that a rule's are
+module _ (seqs : List ℕ) (secs : List ℤ) (rule : Told ℕ) (out : List ℕ) where
+  one-outcome : (a b : Encoded) (x y : List ℕ) → (toldEncode a ≡ rule) × (x ≡ encodedIn seqs secs rule out)
+      → (toldEncode b ≡ rule) × (y ≡ encodedIn seqs secs rule out) → (a ≡ b) × (x ≡ y)
+  one-outcome a b x y h k = (encode-told a b (h .0 ∙ sym (k .0)), h .1 ∙ sym (k .1))
+
+-- `encode`: its answer, and the buffer
+pub one-encode : (seqs : List ℕ) (secs : List ℤ) (out : List ℕ) (a b : Encoded) (x y : List ℕ)
+    → (toldEncode a ≡ encodeRule seqs secs (length out)) × (x ≡ encodedIn seqs secs (encodeRule seqs secs (length out)) out)
+    → (toldEncode b ≡ encodeRule seqs secs (length out)) × (y ≡ encodedIn seqs secs (encodeRule seqs secs (length out)) out) → (a ≡ b) × (x ≡ y)
+one-encode seqs secs out = one-outcome seqs secs (encodeRule seqs secs (length out)) out
+
+-- `encode_strict`: its answer, and the buffer
+pub one-strict : (seqs : List ℕ) (secs : List ℤ) (out : List ℕ) (a b : Encoded) (x y : List ℕ)
+    → (toldEncode a ≡ strictRule seqs secs (length out)) × (x ≡ encodedIn seqs secs (strictRule seqs secs (length out)) out)
+    → (toldEncode b ≡ strictRule seqs secs (length out)) × (y ≡ encodedIn seqs secs (strictRule seqs secs (length out)) out) → (a ≡ b) × (x ≡ y)
+one-strict seqs secs out = one-outcome seqs secs (strictRule seqs secs (length out)) out

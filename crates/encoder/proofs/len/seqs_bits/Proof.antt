@@ -1,0 +1,126 @@
+use borrow.Author.Needs.{needs, sfits-of}
+use native.Mathlib.Omega.{arith}
+use Prim.Native.Nat.{ℕ, _-_, _≤_, _<_}
+use mathlib.Core.Path.{_≡_, sym, ap, _∙_}
+use mathlib.Core.List.{List, map}
+use lib.ListN.{length, getD, length-map, List·getD-map}
+use lib.IntN.{ℤ, pos}
+use mir.Syntax.{w64}
+use mir.Val.{SFits, toZ, ofZ}
+use mir.Facts.{toZ-ofZ}
+use Rattle.bits.specs.Signed.{signed}
+use Rattle.gorilla.specs.Steps.{advanced}
+use Rattle.encoder.proofs.Codes.{Counted, none-length, code-most, count-first, count-next, count-last}
+use Rattle.encoder.proofs.len.seqs_bits.Statement.{statement}
+use Rattle.encoder.proofs.len.seqs_bits.Tie as tie
+
+abbrev Inv-loop : tie.InvT-loop
+Inv-loop seqs t₀ total₀ i₀ t total i = (1 ≤ i) × (i ≤ length seqs) × Counted (map signed seqs) t total i
+
+abbrev μ-loop : tie.MeasureT-loop
+μ-loop seqs t₀ total₀ i₀ t total i = length seqs - i
+
+abbrev seqs-of : tie.At-loop Inv-loop μ-loop → List ℕ
+seqs-of al = al .before .before .before .before .before .args .seqs .now
+
+abbrev al-of : tie.After-advance Inv-loop μ-loop → tie.At-loop Inv-loop μ-loop
+al-of ad = ad .before .before .before .before
+
+-- the value that is read, and where it leads
+in-array : (ad : tie.After-advance Inv-loop μ-loop) → (al-of ad) .loop .i < length (map signed (seqs-of (al-of ad)))
+in-array ad = omega (arith, length-map (seqs-of (al-of ad)) signed, ad .before .before .before .loop-test .taken)
+
+adv-is : (ad : tie.After-advance Inv-loop μ-loop) → ad .advance .result ≡ advanced ((al-of ad) .loop .t) (getD (map signed (seqs-of (al-of ad))) ((al-of ad) .loop .i) (pos 0))
+adv-is ad =
+    ad .advance .ensures ∙ ap (advanced ((al-of ad) .loop .t)) (toZ-ofZ (sfits-of (ad .before .as-signed2 .ok)) ∙ ad .before .as-signed2 .ensures
+    ∙ sym (List·getD-map signed (seqs-of (al-of ad)) ((al-of ad) .loop .i) 0))
+
+abbrev z-of : tie.After-advance Inv-loop μ-loop → ℤ
+z-of ad = toZ w64 (ofZ w64 (ad .advance .result .dod))
+
+d-is : (ad : tie.After-advance Inv-loop μ-loop) → z-of ad ≡ ad .advance .result .dod
+d-is ad = let f : SFits w64 (ad .advance .result .dod) = search needs in toZ-ofZ f
+
+first-is : (a : tie.After-as-signed Inv-loop μ-loop) → toZ w64 (ofZ w64 (a .as-signed .result)) ≡ getD (map signed (a .before .before .before .before .args .seqs .now)) 0 (pos 0)
+first-is a = toZ-ofZ (sfits-of (a .as-signed .ok)) ∙ a .as-signed .ensures ∙ sym (List·getD-map signed (a .before .before .before .before .args .seqs .now) 0 0)
+
+returns : tie.Need-returns Inv-loop μ-loop
+returns c =
+    let s = c .before .before .args .seqs .now in
+    sym (none-length (map signed s) (omega (arith, length-map s signed)))
+
+shared-slice-read-as-signed : tie.Need-shared-slice-read-as-signed Inv-loop μ-loop
+shared-slice-read-as-signed c = search needs
+
+as-signed-requires : tie.Need-as-signed-requires Inv-loop μ-loop
+as-signed-requires c κs = search needs
+
+loop-holds : tie.Need-loop-holds Inv-loop μ-loop
+loop-holds c =
+    let s = c .before .before .before .before .args .seqs .now in
+    (omega arith, omega arith, count-first (map signed s) _ (omega (arith, length-map s signed)) (first-is c))
+
+mul-as-signed : tie.Need-mul-as-signed Inv-loop μ-loop
+mul-as-signed c = search needs
+
+shared-slice-read-as-signed-2 : tie.Need-shared-slice-read-as-signed-2 Inv-loop μ-loop
+shared-slice-read-as-signed-2 c = search needs
+
+as-signed-requires-2 : tie.Need-as-signed-requires-2 Inv-loop μ-loop
+as-signed-requires-2 c κs = search needs
+
+advance-requires : tie.Need-advance-requires Inv-loop μ-loop
+advance-requires c κs = search needs
+
+code-len-requires : tie.Need-code-len-requires Inv-loop μ-loop
+code-len-requires c κs = search needs
+
+add-total : tie.Need-add-total Inv-loop μ-loop
+add-total c =
+    let ad = c .before .before in
+    let al = al-of ad in
+    omega (arith, code-most (z-of ad), c .code-len .ensures, al .loop .inv .2 .most, ad .before .before .before .loop-test .taken, al .before .before .before .before .before .pre)
+
+add-i : tie.Need-add-i Inv-loop μ-loop
+add-i c = search needs
+
+loop-less : tie.Need-loop-less Inv-loop μ-loop
+loop-less c = search needs
+
+loop-again : tie.Need-loop-again Inv-loop μ-loop
+loop-again c =
+    let cl = c .before in
+    let ad = cl .before .before in
+    let al = al-of ad in (
+      omega arith,
+      omega (arith, ad .before .before .before .loop-test .taken),
+      count-next (map signed (seqs-of al)) (al .loop .t) (al .loop .total) (al .loop .i) (ad .advance .result) (z-of ad) (cl .code-len .result)
+          (al .loop .inv .2) (in-array ad) (adv-is ad) (d-is ad) (cl .code-len .ensures),
+    )
+
+returns-2 : tie.Need-returns-2 Inv-loop μ-loop
+returns-2 c =
+    let al = c .before in
+    let s = seqs-of al in
+    count-last (map signed s) (al .loop .t) (al .loop .total) (al .loop .i) (al .loop .inv .2) (omega (arith, length-map s signed, c .loop-test .left))
+
+pub seqs-bits-spec : {M : Type 1} → statement M
+seqs-bits-spec =
+    tie.close
+    (tie.spec
+    Inv-loop
+    μ-loop
+    returns
+    shared-slice-read-as-signed
+    as-signed-requires
+    loop-holds
+    mul-as-signed
+    shared-slice-read-as-signed-2
+    as-signed-requires-2
+    advance-requires
+    code-len-requires
+    add-total
+    add-i
+    loop-less
+    loop-again
+    returns-2)

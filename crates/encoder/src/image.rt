@@ -1,0 +1,77 @@
+// The image: version 1, the pair count, the sequences, the seconds.
+ghost use mathlib.Core.Path.{_≡_};
+ghost use mathlib.Core.List.{_∷_};
+ghost use Prim.Native.Nat.{_≤_};
+ghost use lib.ListN.{length};
+ghost use lib.Seq.{sets};
+ghost use Rattle.bits.specs.Over.{over};
+ghost use Rattle.gorilla.specs.Format.{leBytes, imageBytes};
+ghost use Rattle.encoder.specs.Encode.{toldEncode, roomRule, encodeRule, strictRule, encodedIn};
+use crate::Encoded;
+use crate::EncodedLen;
+use crate::FirstWide;
+use crate::Refusal;
+use crate::array::write_secs;
+use crate::array::write_seqs;
+use crate::len::encoded_len;
+use crate::strict::first_wide;
+
+// The version, and the pair count in four bytes, the least significant first.
+fn write_header(out: &mut [u8], count: usize)
+    requires { ⌜ 5 ≤ length (now out) ⌝ }
+    ensures { λ r. ⌜ now (out .exit) ≡ sets (now (out .entry)) 0 (1 ∷ leBytes 4 count) ⌝ }
+{
+    out[0] = 1;
+    out[1] = (count % 256) as u8;
+    out[2] = (count / 256 % 256) as u8;
+    out[3] = (count / 256 / 256 % 256) as u8;
+    out[4] = (count / 256 / 256 / 256 % 256) as u8;
+}
+
+// The image, into a buffer that holds it.
+fn write_image(seqs: &[u64], secs: &[i64], out: &mut [u8])
+    requires { ⌜ length (imageBytes (now seqs) (now secs)) ≤ length (now out) ⌝ }
+    ensures { λ r. ⌜ now (out .exit) ≡ over (imageBytes (now (seqs .entry)) (now (secs .entry))) (now (out .entry)) ⌝ }
+{
+    write_header(out, seqs.len());
+    let end = write_seqs(out, 5, seqs);
+    write_secs(out, end, secs);
+}
+
+// The image of `bytes` bytes, or refusal 21 before a byte is written.
+fn write_if_room(seqs: &[u64], secs: &[i64], out: &mut [u8], bytes: usize) -> Encoded
+    requires { ⌜ bytes ≡ length (imageBytes (now seqs) (now secs)) ⌝ }
+    ensures answer { λ r. ⌜ toldEncode r ≡ roomRule bytes (length (now (out .entry))) ⌝ }
+    ensures out { λ r. ⌜ now (out .exit) ≡ encodedIn (now (seqs .entry)) (now (secs .entry)) (roomRule bytes (length (now (out .entry)))) (now (out .entry)) ⌝ }
+{
+    if out.len() < bytes {
+        return Encoded::Refused(Refusal::Room(bytes));
+    }
+    write_image(seqs, secs, out);
+    Encoded::Written(bytes)
+}
+
+// The Rust's bytes: differences wrap, and one that 32 bits do not hold is cut to them.
+pub fn encode(seqs: &[u64], secs: &[i64], out: &mut [u8]) -> Encoded
+    ensures answer { λ r. ⌜ toldEncode r ≡ encodeRule (now (seqs .entry)) (now (secs .entry)) (length (now (out .entry))) ⌝ }
+    ensures out { λ r. ⌜ now (out .exit) ≡ encodedIn (now (seqs .entry)) (now (secs .entry)) (encodeRule (now (seqs .entry)) (now (secs .entry)) (length (now (out .entry)))) (now (out .entry)) ⌝ }
+{
+    match encoded_len(seqs, secs) {
+        EncodedLen::Bytes(bytes) => write_if_room(seqs, secs, out, bytes),
+        EncodedLen::Refused(refusal) => Encoded::Refused(refusal),
+    }
+}
+
+// The same where 32 bits hold every difference of deltas, so that the image reads back as the arrays.
+pub fn encode_strict(seqs: &[u64], secs: &[i64], out: &mut [u8]) -> Encoded
+    ensures answer { λ r. ⌜ toldEncode r ≡ strictRule (now (seqs .entry)) (now (secs .entry)) (length (now (out .entry))) ⌝ }
+    ensures out { λ r. ⌜ now (out .exit) ≡ encodedIn (now (seqs .entry)) (now (secs .entry)) (strictRule (now (seqs .entry)) (now (secs .entry)) (length (now (out .entry)))) (now (out .entry)) ⌝ }
+{
+    match encoded_len(seqs, secs) {
+        EncodedLen::Bytes(bytes) => match first_wide(seqs, secs) {
+            FirstWide::None => write_if_room(seqs, secs, out, bytes),
+            FirstWide::At(a, i) => Encoded::Refused(Refusal::Wide(a, i)),
+        },
+        EncodedLen::Refused(refusal) => Encoded::Refused(refusal),
+    }
+}

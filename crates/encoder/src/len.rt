@@ -1,0 +1,85 @@
+// The length of an image, counted before a byte of it is written.
+ghost use mathlib.Core.Path.{_≡_};
+ghost use mathlib.Core.List.{map};
+ghost use Prim.Native.Nat.{_≤_};
+ghost use lib.ListN.{length};
+ghost use Rattle.bits.specs.Signed.{signed};
+ghost use Rattle.gorilla.specs.Format.{codeBits, arrayBits};
+ghost use Rattle.encoder.specs.Encode.{toldLen, lenRule};
+use crate::EncodedLen;
+use crate::Refusal;
+use gorilla::Track;
+use gorilla::inner::advance;
+use gorilla::inner::row_of;
+
+// The values that an array to encode may have.
+const MOST: usize = 65536;
+
+// The bits of a code.
+fn code_len(dod: i64) -> usize
+    ensures { λ r. ⌜ r ≡ length (codeBits dod) ⌝ }
+{
+    let row = row_of(dod);
+    (row.prefix_bits + row.width) as usize
+}
+
+// The bits of the sequences' array.
+fn seqs_bits(seqs: &[u64]) -> usize
+    requires { ⌜ length (now seqs) ≤ 65536 ⌝ }
+    ensures { λ r. ⌜ r ≡ length (arrayBits (map signed (now (seqs .entry)))) ⌝ }
+{
+    if seqs.len() == 0 {
+        return 32;
+    }
+    let mut t = Track {
+        prev: bits::as_signed(seqs[0]),
+        delta: 0,
+    };
+    let mut total: usize = 96;
+    let mut i: usize = 1;
+    while i < seqs.len() {
+        let c = advance(t, bits::as_signed(seqs[i]));
+        total += code_len(c.dod);
+        let next = c.next;
+        t = next;
+        i += 1;
+    }
+    total
+}
+
+// The bits of the seconds' array.
+fn secs_bits(secs: &[i64]) -> usize
+    requires { ⌜ length (now secs) ≤ 65536 ⌝ }
+    ensures { λ r. ⌜ r ≡ length (arrayBits (now (secs .entry))) ⌝ }
+{
+    if secs.len() == 0 {
+        return 32;
+    }
+    let first = secs[0];
+    let mut t = Track {
+        prev: first,
+        delta: 0,
+    };
+    let mut total: usize = 96;
+    let mut i: usize = 1;
+    while i < secs.len() {
+        let c = advance(t, secs[i]);
+        total += code_len(c.dod);
+        let next = c.next;
+        t = next;
+        i += 1;
+    }
+    total
+}
+
+pub fn encoded_len(seqs: &[u64], secs: &[i64]) -> EncodedLen
+    ensures { λ r. ⌜ toldLen r ≡ lenRule (now (seqs .entry)) (now (secs .entry)) ⌝ }
+{
+    if seqs.len() != secs.len() {
+        return EncodedLen::Refused(Refusal::LengthsDiffer);
+    }
+    if seqs.len() > MOST {
+        return EncodedLen::Refused(Refusal::TooMany);
+    }
+    EncodedLen::Bytes(5 + (seqs_bits(seqs) + 7) / 8 + (secs_bits(secs) + 7) / 8)
+}

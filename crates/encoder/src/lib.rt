@@ -1,0 +1,46 @@
+// Encoding: the image of two arrays, into a lent buffer.
+//
+// slatedb's encoder pushes bits into a vector that grows. Here the image's length is counted before a byte is written, so
+// that a refused call leaves the buffer as it was. No public call has a `requires`: what cannot be encoded is refused by a
+// case of the answer, whose number in document 01 specs/ lists.
+mod array; // array.rt: one array
+mod code; // code.rt: one code
+mod image; // image.rt: the image
+mod len; // len.rt: the image's length
+mod strict; // strict.rt: differences that 32 bits do not hold
+
+use gorilla::Array;
+pub use image::encode;
+pub use image::encode_strict;
+pub use len::encoded_len;
+
+// Why arrays are not encoded.
+pub enum Refusal {
+    // 18: the arrays differ in length
+    LengthsDiffer,
+    // 19: more than 65,536 values in each array
+    TooMany,
+    // 20, strict: the array and the index of a difference of deltas outside -2^31..2^31-1
+    Wide(Array, usize),
+    // 21: the buffer is too short, and the bytes that it would have to have
+    Room(usize),
+}
+
+// What the length answers.
+pub enum EncodedLen {
+    Bytes(usize),
+    Refused(Refusal),
+}
+
+// What an encoder answers.
+pub enum Encoded {
+    // the bytes that were written
+    Written(usize),
+    Refused(Refusal),
+}
+
+// The first difference of deltas that 32 bits do not hold.
+enum FirstWide {
+    None,
+    At(Array, usize),
+}

@@ -1,0 +1,70 @@
+// The first difference of deltas outside -2^31..2^31-1.
+ghost use mathlib.Core.Path.{_≡_};
+ghost use mathlib.Core.List.{map};
+ghost use Rattle.bits.specs.Signed.{signed};
+ghost use Rattle.gorilla.specs.Wide.{wideIn, wideOf};
+ghost use Rattle.encoder.specs.Parts.{foundWide};
+use crate::FirstWide;
+use gorilla::Array;
+use gorilla::Track;
+use gorilla::inner::advance;
+use gorilla::inner::is_strict;
+
+// Among the sequences.
+fn first_wide_seq(seqs: &[u64]) -> FirstWide
+    ensures { λ r. ⌜ foundWide r ≡ wideIn 0 (map signed (now (seqs .entry))) ⌝ }
+{
+    if seqs.len() == 0 {
+        return FirstWide::None;
+    }
+    let mut t = Track {
+        prev: bits::as_signed(seqs[0]),
+        delta: 0,
+    };
+    let mut i: usize = 1;
+    while i < seqs.len() {
+        let c = advance(t, bits::as_signed(seqs[i]));
+        if !is_strict(c.dod) {
+            return FirstWide::At(Array::Sequences, i);
+        }
+        let next = c.next;
+        t = next;
+        i += 1;
+    }
+    FirstWide::None
+}
+
+// Among the seconds.
+fn first_wide_sec(secs: &[i64]) -> FirstWide
+    ensures { λ r. ⌜ foundWide r ≡ wideIn 1 (now (secs .entry)) ⌝ }
+{
+    if secs.len() == 0 {
+        return FirstWide::None;
+    }
+    let first = secs[0];
+    let mut t = Track {
+        prev: first,
+        delta: 0,
+    };
+    let mut i: usize = 1;
+    while i < secs.len() {
+        let c = advance(t, secs[i]);
+        if !is_strict(c.dod) {
+            return FirstWide::At(Array::Seconds, i);
+        }
+        let next = c.next;
+        t = next;
+        i += 1;
+    }
+    FirstWide::None
+}
+
+// Sequences before seconds.
+pub fn first_wide(seqs: &[u64], secs: &[i64]) -> FirstWide
+    ensures { λ r. ⌜ foundWide r ≡ wideOf (now (seqs .entry)) (now (secs .entry)) ⌝ }
+{
+    match first_wide_seq(seqs) {
+        FirstWide::None => first_wide_sec(secs),
+        FirstWide::At(a, i) => FirstWide::At(a, i),
+    }
+}
