@@ -1,0 +1,102 @@
+-- The text of what the list reader answered. Assumes nothing.
+use Prim.Native.Nat.{ℕ, zero, suc, _+_, _*_, _≤_, _<_, min}
+use native.Mathlib.Omega.{arith}
+use mathlib.Core.Path.{_≡_, refl, sym, ap, _∙_, subst}
+use mathlib.Core.List.{List, _++_}
+use lib.Dec.{leb}
+use lib.IntN.{ℤ, pos}
+use lib.ListN.{length, drop, length-append, List·getD-append}
+use lib.Seq.{sets-eq}
+use borrow.Author.Tests.{lt-ltb, le-ltb}
+use Rattle.bits.specs.Over.{over}
+use Rattle.bits.proofs.Unique.{given-not-refused, same-list, same-gift}
+use Rattle.gorilla.specs.Parser.{Read, read, refused}
+use Rattle.gorilla.specs.Reading.{Pairs, readImage}
+use Rattle.arrays.specs.Refusal.{numbers}
+use Rattle.decoder.specs.Decode.{toldDecode, listed, countOf, decodeRule, seqsOver, secsOver, seqsAfter, secsAfter}
+use Rattle.arrays.specs.declared.Refusal.{Refusal}
+use Rattle.decoder.specs.declared.Decoded.{Decoded}
+use Rattle.decoder.specs.declared.Decoded.the-variants as d
+use Rattle.report.specs.Ascii.{ascii}
+use Rattle.report.specs.Put.{Put}
+use Rattle.report.specs.Text.{lines, wordLine, entriesText, refusedText}
+use Rattle.report.specs.Listing.{numberOf, readText, listingOf, answerText, Held}
+use Rattle.report.proofs.Numbers.{word-length, lines-length}
+use Rattle.gorilla.proofs.Counts.{image-counts}
+
+module _ (a : Decoded) (seqs : List ℕ) (secs : List ℤ) where
+  pub held : {n : ℕ} → a ≡ d.Count n → Held a seqs secs → (n ≤ length seqs) × (n ≤ length secs) × (n ≤ 1024)
+  held e h = subst (λ (x : Decoded). Held x seqs secs) e h
+
+  pub count-text : {n : ℕ} → a ≡ d.Count n → answerText a seqs secs ≡ entriesText seqs secs n
+  count-text e = ap (λ (x : Decoded). answerText x seqs secs) e
+
+  pub refusal-text : {r : Refusal} → a ≡ d.Refused r → answerText a seqs secs ≡ refusedText (numberOf (numbers r))
+  refusal-text e = ap (λ (x : Decoded). answerText x seqs secs) e
+
+-- ---- how long it is
+pub refused-length : (n : ℕ) → length (refusedText n) ≤ 29
+unfolding refusedText
+refused-length n = word-length (ascii "refused ") n
+
+pub entries-length : (seqs : List ℕ) (secs : List ℤ) (n : ℕ) → length (entriesText seqs secs n) ≤ n * 64 + 29
+unfolding entriesText
+entries-length seqs secs n = omega (arith, length-append (wordLine (ascii "entries ") n) (lines seqs secs n), word-length (ascii "entries ") n, lines-length seqs secs n)
+
+-- ---- a whole text, put at the start
+pub whole : {out text new : List ℕ} {p : ℕ} → Put out 0 text new p → length text ≤ length out → (p ≡ length text) × (new ≡ over text out)
+whole {out} {text} {new} {p} f h =
+    let e : 0 + length text ≡ length text = omega arith in
+    (omega (arith, f .ends), f .bytes ∙ sets-eq text out 0 (omega arith) ∙ ap (λ (k : ℕ). text ++ drop k out) e)
+
+-- ---- the arrays after the list reader
+length-over : {A : Type 0} (l xs : List A) → length l ≤ length (over l xs)
+length-over l xs = omega (arith, length-append l (drop (length l) xs))
+
+lines-over : (seqs s : List ℕ) (secs t : List ℤ) (n : ℕ) → n ≤ length seqs → n ≤ length secs → lines (over seqs s) (over secs t) n ≡ lines seqs secs n
+unfolding lines
+lines-over seqs s secs t zero h k = refl
+lines-over seqs s secs t (suc n) h k =
+    rw (
+      lines-over seqs s secs t n (omega arith) (omega arith),
+      List·getD-append seqs (drop (length seqs) s) 0 n (omega arith),
+      List·getD-append secs (drop (length secs) t) (pos 0) n (omega arith),
+    )
+
+module _ (s₀ : List ℕ) (t₀ : List ℤ) where
+  answered : (m : Read Pairs) (a : Decoded) (s : List ℕ) (t : List ℤ) → ((p : Pairs) (left : List ℕ) → m ≡ read p left → length (p .seqs) ≡ length (p .secs))
+      → toldDecode a ≡ countOf m → s ≡ seqsOver s₀ m → t ≡ secsOver t₀ m → length s ≡ 1024 → Held a s t × (answerText a s t ≡ readText m)
+  unfolding entriesText
+  answered (read p left) (d.Count n) s t g h hs ht l =
+      let e : n ≡ length (p .secs) = same-gift h in
+      let q = g p left refl in
+      let ks = length-over (p .seqs) s₀ in
+      let kt = length-over (p .secs) t₀ in
+      rw (hs, ht, e) ((omega (arith, ks, q), kt, omega (arith, ks, q, ap length hs, l)), ap (λ (x : List ℕ). wordLine (ascii "entries ") (length (p .secs)) ++ x) (lines-over (p .seqs) s₀ (p .secs) t₀ (length (p .secs)) (omega (arith, q)) (omega arith)))
+  answered (read p left) (d.Refused r) s t g h hs ht l = given-not-refused (sym h)
+  answered (refused k) (d.Count n) s t g h hs ht l = given-not-refused h
+  answered (refused k) (d.Refused r) s t g h hs ht l = (tt, ap (λ (x : List ℕ). refusedText (numberOf x)) (same-list h))
+
+-- ---- the whole rule
+pub too-long : (input : List ℕ) → 16384 < length input → listingOf input ≡ refusedText 22
+unfolding listingOf
+too-long input h = rw (lt-ltb _ _ h)
+
+not-long : (input : List ℕ) → length input ≤ 16384 → listingOf input ≡ readText (readImage (λ n. leb n 1024) input)
+unfolding listingOf
+not-long input h = rw (le-ltb _ _ h)
+
+listed-is : (input s₀ : List ℕ) (t₀ : List ℤ) → length s₀ ≡ 1024 → length t₀ ≡ 1024 → listed input s₀ t₀ ≡ readImage (λ n. leb n 1024) input
+unfolding listed
+listed-is input s₀ t₀ ls lt =
+    let e : min (length s₀) (length t₀) ≡ 1024 = rw (ls, lt) in
+    ap (λ (k : ℕ). readImage (λ n. leb n k) input) e
+
+module _ (input s₀ : List ℕ) (t₀ : List ℤ) (a : Decoded) (s : List ℕ) (t : List ℤ) where
+  pub listing-answered : length s₀ ≡ 1024 → length t₀ ≡ 1024 → length input ≤ 16384 → length s ≡ 1024
+      → (toldDecode a ≡ decodeRule input s₀ t₀) × (s ≡ seqsAfter input s₀ t₀) × (t ≡ secsAfter input s₀ t₀)
+      → Held a s t × (answerText a s t ≡ listingOf input)
+  listing-answered ls lt h l k =
+      let e = listed-is input s₀ t₀ ls lt in
+      let w = answered s₀ t₀ (listed input s₀ t₀) a s t (λ p left r. image-counts (λ n. leb n 1024) input (sym e ∙ r) .0) (k .0) (k .1) (k .2) l in
+      (w .0, w .1 ∙ ap readText e ∙ sym (not-long input h))

@@ -1,0 +1,6 @@
+pub mod Putting
+pub mod Numbers
+pub mod Reading
+pub mod Answers
+pub mod Unique
+pub mod Cases
