@@ -1,0 +1,10 @@
+-- Laws that belong to no one function.
+pub mod Run
+pub mod Preserved
+pub mod Unique
+pub mod Cases
+mod Moved
+mod Records
+mod Again
+mod Both
+mod Calls
