@@ -1,0 +1,187 @@
+// Lists of sequences and of seconds: read from a body, compared with one, and made by a rule.
+use crate::body::after;
+use crate::body::i64_at;
+use crate::body::u32_at;
+use crate::body::u64_at;
+use crate::digest;
+
+// The most pairs that a rule stands for here.
+pub const MOST: usize = 16384;
+
+// The most values that a body lists; longer lists stand as digests.
+pub const LISTED: usize = 64;
+
+// A rule of FORMAT.md, at its present pair.
+pub struct Rule {
+    pub count: usize,
+    pub x: u64,
+    pub seq: u64,
+    pub seq_step: u64,
+    pub seq_mask: u64,
+    pub sec: u64,
+    pub sec_step: u64,
+    pub sec_mask: u64,
+}
+
+fn put_seq(to: &mut [u64], i: usize, seq: u64) {
+    if i < to.len() {
+        to[i] = seq;
+    }
+}
+
+fn put_sec(to: &mut [i64], i: usize, sec: i64) {
+    if i < to.len() {
+        to[i] = sec;
+    }
+}
+
+pub fn seq_of(s: &[u64], i: usize) -> u64 {
+    if i < s.len() {
+        return s[i];
+    }
+    0
+}
+
+// The bits of a second.
+pub fn sec_of(s: &[i64], i: usize) -> u64 {
+    if i < s.len() {
+        return bits::as_unsigned(s[i]);
+    }
+    0
+}
+
+pub fn read_seqs(b: &[u8], from: usize, n: usize, to: &mut [u64]) {
+    let mut at = from;
+    let mut i = 0;
+    while i < n {
+        put_seq(to, i, u64_at(b, at));
+        at = after(at, 8);
+        i += 1;
+    }
+}
+
+pub fn read_secs(b: &[u8], from: usize, n: usize, to: &mut [i64]) {
+    let mut at = from;
+    let mut i = 0;
+    while i < n {
+        put_sec(to, i, i64_at(b, at));
+        at = after(at, 8);
+        i += 1;
+    }
+}
+
+// Whether the first n sequences are those of a body.
+fn same_seqs(b: &[u8], from: usize, n: usize, s: &[u64]) -> bool {
+    let mut at = from;
+    let mut i = 0;
+    while i < n {
+        if u64_at(b, at) != seq_of(s, i) {
+            return false;
+        }
+        at = after(at, 8);
+        i += 1;
+    }
+    true
+}
+
+fn same_secs(b: &[u8], from: usize, n: usize, s: &[i64]) -> bool {
+    let mut at = from;
+    let mut i = 0;
+    while i < n {
+        if u64_at(b, at) != sec_of(s, i) {
+            return false;
+        }
+        at = after(at, 8);
+        i += 1;
+    }
+    true
+}
+
+// Whether the first n pairs are those that a body lists or has the digests of.
+pub fn values_so(b: &[u8], at: usize, n: usize, seqs: &[u64], secs: &[i64]) -> bool {
+    if n > LISTED {
+        if digest::of_seqs(seqs, n) != u64_at(b, at) {
+            return false;
+        }
+        return digest::of_secs(secs, n) == u64_at(b, after(at, 8));
+    }
+    if !same_seqs(b, at, n, seqs) {
+        return false;
+    }
+    same_secs(b, after(at, 8 * n), n, secs)
+}
+
+// Whether a number is among n of a body.
+pub fn among(b: &[u8], from: usize, n: usize, v: u64) -> bool {
+    let mut at = from;
+    let mut i = 0;
+    while i < n {
+        if u64_at(b, at) == v {
+            return true;
+        }
+        at = after(at, 8);
+        i += 1;
+    }
+    false
+}
+
+// The first n, or all where there are fewer.
+pub fn first_seqs<'a>(s: &'a [u64], n: usize) -> &'a [u64] {
+    if n > s.len() {
+        return s;
+    }
+    &s[0..n]
+}
+
+pub fn first_secs<'a>(s: &'a [i64], n: usize) -> &'a [i64] {
+    if n > s.len() {
+        return s;
+    }
+    &s[0..n]
+}
+
+// The rule that a body begins with.
+pub fn rule_of(b: &[u8]) -> Rule {
+    Rule {
+        count: u32_at(b, 0),
+        x: u64_at(b, 4),
+        seq: u64_at(b, 12),
+        seq_step: u64_at(b, 20),
+        seq_mask: u64_at(b, 28),
+        sec: u64_at(b, 36),
+        sec_step: u64_at(b, 44),
+        sec_mask: u64_at(b, 52),
+    }
+}
+
+fn stepped(v: u64, step: u64, more: u64) -> u64 {
+    std::num::wrapping_add_u64(v, std::num::wrapping_add_u64(step, more))
+}
+
+// The rule at its next pair.
+fn next(r: Rule) -> Rule {
+    let x = digest::mix(r.x);
+    Rule {
+        count: r.count,
+        x: x,
+        seq: stepped(r.seq, r.seq_step, x & r.seq_mask),
+        seq_step: r.seq_step,
+        seq_mask: r.seq_mask,
+        sec: stepped(r.sec, r.sec_step, (x >> 32) & r.sec_mask),
+        sec_step: r.sec_step,
+        sec_mask: r.sec_mask,
+    }
+}
+
+// The pairs that a rule stands for.
+pub fn make(rule: Rule, seqs: &mut [u64], secs: &mut [i64]) {
+    let n = rule.count;
+    let mut r = rule;
+    let mut i = 0;
+    while i < n {
+        put_seq(seqs, i, r.seq);
+        put_sec(secs, i, bits::as_signed(r.sec));
+        r = next(r);
+        i += 1;
+    }
+}

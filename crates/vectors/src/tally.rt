@@ -1,0 +1,98 @@
+// How many answers of the Rust were met and how many were not, by what was asked.
+pub const WRITES: usize = 0;
+
+pub const READS: usize = 1;
+
+pub const EXTENSIONS: usize = 2;
+
+pub const ENCODINGS: usize = 3;
+
+pub const READBACKS: usize = 4;
+
+pub const DECODINGS: usize = 5;
+
+pub const LENGTHS: usize = 6;
+
+pub const OFFERS: usize = 7;
+
+pub const TABLES: usize = 8;
+
+pub const LOOKUPS: usize = 9;
+
+pub const SAVES: usize = 10;
+
+pub const RUNS: usize = 11;
+
+pub const EXTENDS: usize = 12;
+
+pub const RESTORES: usize = 13;
+
+// The sum of all of them; as a question, none.
+pub const ANSWERS: usize = 14;
+
+// Agreed at twice the question, differed at the place after it.
+pub const PLACES: usize = 30;
+
+fn one_more(tally: &mut [u64; PLACES], place: usize) {
+    if place < PLACES {
+        tally[place] = std::num::wrapping_add_u64(tally[place], 1);
+    }
+}
+
+fn place_of(question: usize, agreed: bool) -> usize {
+    let twice = std::num::wrapping_add_usize(question, question);
+    if agreed {
+        return twice;
+    }
+    std::num::wrapping_add_usize(twice, 1)
+}
+
+// One more answer compared.
+pub fn note(tally: &mut [u64; PLACES], question: usize, agreed: bool) {
+    if question >= ANSWERS {
+        return;
+    }
+    one_more(tally, place_of(question, agreed));
+    one_more(tally, place_of(ANSWERS, agreed));
+}
+
+fn print_count(tally: &[u64; PLACES], place: usize) {
+    if place < PLACES {
+        io::print_decimal(libc::STDOUT_FILENO, tally[place]);
+    }
+}
+
+fn print_line(name: &[u8], tally: &[u64; PLACES], question: usize) {
+    io::write_all(libc::STDOUT_FILENO, name);
+    io::write_all(libc::STDOUT_FILENO, b" agreed ");
+    print_count(tally, place_of(question, true));
+    io::write_all(libc::STDOUT_FILENO, b" differed ");
+    print_count(tally, place_of(question, false));
+    io::write_all(libc::STDOUT_FILENO, b"\n");
+}
+
+fn print_codec(tally: &[u64; PLACES]) {
+    print_line(b"writes", tally, WRITES);
+    print_line(b"reads", tally, READS);
+    print_line(b"extensions", tally, EXTENSIONS);
+    print_line(b"encodings", tally, ENCODINGS);
+    print_line(b"readbacks", tally, READBACKS);
+    print_line(b"decodings", tally, DECODINGS);
+    print_line(b"lengths", tally, LENGTHS);
+}
+
+fn print_tables(tally: &[u64; PLACES]) {
+    print_line(b"offers", tally, OFFERS);
+    print_line(b"tables", tally, TABLES);
+    print_line(b"lookups", tally, LOOKUPS);
+    print_line(b"saves", tally, SAVES);
+    print_line(b"runs", tally, RUNS);
+    print_line(b"extends", tally, EXTENDS);
+    print_line(b"restores", tally, RESTORES);
+}
+
+pub fn print(tally: &[u64; PLACES]) {
+    print_codec(tally);
+    print_tables(tally);
+    print_line(b"answers", tally, ANSWERS);
+}
