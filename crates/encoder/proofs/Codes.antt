@@ -1,6 +1,6 @@
 -- The codes of an array, one value after the other: counted, written and searched. A loop over the array holds a value with
 -- its delta, t, and the index i of the value that is next. Assumes nothing.
-use Prim.Native.Nat.{ℕ, suc, _+_, _-_, _*_, _/_, _%_, _≤_, _<_}
+use Prim.Native.Nat.{ℕ, suc, _+_, _-_, _*_, _≤_, _<_}
 use mathlib.Core.Path.{_≡_, refl, sym, ap, ap₂, _∙_}
 use mathlib.Core.Bool.{Bool, true, false, cond, not}
 use mathlib.Core.List.{List, [], _∷_, _++_, append-assoc, append-nil, map}
@@ -9,8 +9,6 @@ use native.Mathlib.Numerals.{add-one}
 use lib.ListN.{length, getD, drop, length-append, drop-of-length-le}
 use lib.Seq.{drop-cons}
 use lib.IntN.{ℤ, pos}
-use Rattle.bits.specs.Place.{placeOf}
-use Rattle.bits.specs.declared.Place.{Place}
 use Rattle.bits.specs.Signed.{signed, pattern, subS}
 use Rattle.gorilla.specs.declared.Track.{Track}
 use Rattle.gorilla.specs.declared.Coded.{Coded}
@@ -21,7 +19,7 @@ use Rattle.gorilla.specs.Places.{putList}
 use Rattle.gorilla.specs.Format.{codeBits, codesBits, valuesBits, arrayBits}
 use Rattle.gorilla.specs.Wide.{Wide, none, found, orElse, wideAfter, wideIn, wideOf}
 use Rattle.gorilla.proofs.Bridge.{length-natBits}
-use Rattle.gorilla.proofs.Putting.{length-code, narrow, length-putList, place-pos, place-bit, codes-done, step-length, step-put}
+use Rattle.gorilla.proofs.Putting.{length-code, narrow, length-putList, codes-done, step-length, step-put}
 use Rattle.encoder.specs.Parts.{codesOf}
 
 -- a code has at most 36 bits
@@ -59,8 +57,8 @@ codes-of-most : (x : ℤ) (xs : List ℤ) → length (codesOf (x ∷ xs)) ≤ 36
 unfolding codesOf
 codes-of-most x xs = codes-most x (pos 0) xs
 
--- at most 36 bits a value beside the head's 96
-pub array-most : (xs : List ℤ) → length (arrayBits xs) ≤ 96 + 36 * (length xs - 1)
+-- at most 36 bits a value beside the head's 96, of which the first value's are 36
+pub array-most : (xs : List ℤ) → length (arrayBits xs) ≤ 60 + 36 * length xs
 array-most [] = omega (arith, none-length [] refl)
 array-most (x ∷ xs) = omega (arith, parts-length (x ∷ xs) (omega arith), codes-of-most x xs)
 
@@ -85,49 +83,34 @@ count-next xs t total i c z n k h e f g = record { most = omega (arith, code-mos
 pub count-last : (xs : List ℤ) (t : Track) (total i : ℕ) → Counted xs t total i → length xs ≤ i → total ≡ length (arrayBits xs)
 count-last xs t total i k h = omega (arith, k .rest, ap length (codes-done xs i (t .prev) (t .delta) h))
 
--- ---- written: what is left, put from p on into buf, is all of it, put from bit q of s on
-pub record Written (xs : List ℤ) (s : List ℕ) (q : ℕ) (buf : List ℕ) (p : Place) (t : Track) (i : ℕ) : Type 0 where
-  pub low : p .bit < 8
+-- ---- written: what is left, put from bit m of buf on, is all of it, put from bit q of s on
+pub record Written (xs : List ℤ) (s : List ℕ) (q : ℕ) (buf : List ℕ) (m : ℕ) (t : Track) (i : ℕ) : Type 0 where
   pub same : length buf ≡ length s
-  pub rest : p .byte * 8 + p .bit + length (codesBits (t .prev) (t .delta) (drop i xs)) ≡ q + length (codesOf xs)
-  pub puts : putList buf (p .byte * 8 + p .bit) (codesBits (t .prev) (t .delta) (drop i xs)) ≡ putList s q (codesOf xs)
+  pub rest : m + length (codesBits (t .prev) (t .delta) (drop i xs)) ≡ q + length (codesOf xs)
+  pub puts : putList buf m (codesBits (t .prev) (t .delta) (drop i xs)) ≡ putList s q (codesOf xs)
 
-pub write-first : (xs : List ℤ) (s : List ℕ) (p : Place) (x : ℤ) → 1 ≤ length xs → p .bit < 8 → x ≡ getD xs 0 (pos 0)
-    → Written xs s (p .byte * 8 + p .bit) s p (record { prev = x; delta = pos 0 }) 1
-write-first xs s p x h l e = record {
-  low = l;
+pub write-first : (xs : List ℤ) (s : List ℕ) (q : ℕ) (x : ℤ) → 1 ≤ length xs → x ≡ getD xs 0 (pos 0) → Written xs s q s q (record { prev = x; delta = pos 0 }) 1
+write-first xs s q x h e = record {
   same = refl;
-  rest = ap (λ (bs : List ℕ). p .byte * 8 + p .bit + length bs) (first-codes xs x h e);
-  puts = ap (putList s (p .byte * 8 + p .bit)) (first-codes xs x h e);
+  rest = ap (λ (bs : List ℕ). q + length bs) (first-codes xs x h e);
+  puts = ap (putList s q) (first-codes xs x h e);
 }
 
-module _ (xs : List ℤ) (s : List ℕ) (q : ℕ) (buf : List ℕ) (p : Place) (t : Track) (i : ℕ) (w : Written xs s q buf p t i) where
-  module _ (h : i < length xs) (c : Coded) (z : ℤ) (e : c ≡ advanced t (getD xs i (pos 0))) (f : z ≡ c .dod) where
-    -- the next code finds room
-    pub write-room : q + length (codesOf xs) ≤ length s * 8 → p .byte * 8 + p .bit + length (codeBits z) ≤ length buf * 8
-    write-room r = omega (arith, step-length xs i t h c z e f, w .rest, w .same)
+module _ (xs : List ℤ) (s : List ℕ) (q : ℕ) (buf : List ℕ) (m : ℕ) (t : Track) (i : ℕ) (w : Written xs s q buf m t i) where
+  pub write-next : (h : i < length xs) (c : Coded) (z : ℤ) (e : c ≡ advanced t (getD xs i (pos 0))) (f : z ≡ c .dod) (u : List ℕ) (n : ℕ)
+      → n ≡ m + length (codeBits z) → u ≡ putList buf m (codeBits z) → Written xs s q u n (c .next) (i + 1)
+  write-next h c z e f u n g k =
+      let R : List ℕ = codesBits (c .next .prev) (c .next .delta) (drop (i + 1) xs) in record {
+        same = ap length k ∙ length-putList buf m (codeBits z) ∙ w .same;
+        rest = omega (arith, g, step-length xs i t h c z e f, w .rest);
+        puts = ap₂ (λ (l : List ℕ) (y : ℕ). putList l y R) k g ∙ sym (step-put xs i t h c z e f buf m) ∙ w .puts;
+      }
 
-    pub write-next : (u : List ℕ) (r : Place) → r ≡ placeOf (p .byte * 8 + p .bit + length (codeBits z)) → u ≡ putList buf (p .byte * 8 + p .bit) (codeBits z)
-        → Written xs s q u r (c .next) (i + 1)
-    write-next u r g k =
-        let n : ℕ = p .byte * 8 + p .bit + length (codeBits z) in
-        let R : List ℕ = codesBits (c .next .prev) (c .next .delta) (drop (i + 1) xs) in
-        let o = place-pos n g in record {
-          low = place-bit n g;
-          same = ap length k ∙ length-putList buf (p .byte * 8 + p .bit) (codeBits z) ∙ w .same;
-          rest = omega (arith, o, step-length xs i t h c z e f, w .rest);
-          puts = ap₂ (λ (l : List ℕ) (m : ℕ). putList l m R) k o ∙ sym (step-put xs i t h c z e f buf (p .byte * 8 + p .bit)) ∙ w .puts;
-        }
-
-  pub write-last : length xs ≤ i → (p ≡ placeOf (q + length (codesOf xs))) × (buf ≡ putList s q (codesOf xs))
+  pub write-last : length xs ≤ i → (m ≡ q + length (codesOf xs)) × (buf ≡ putList s q (codesOf xs))
   unfolding putList
   write-last h =
-      let m : ℕ = p .byte * 8 + p .bit in
       let d = codes-done xs i (t .prev) (t .delta) h in
-      let e : m ≡ q + length (codesOf xs) = omega (arith, ap length d, w .rest) in
-      let b : p .byte ≡ m / 8 = omega (arith, w .low) in
-      let k : p .bit ≡ m % 8 = omega (arith, w .low) in
-      (ap₂ (λ (x y : ℕ). record { byte = x; bit = y }) b k ∙ ap placeOf e, ap (putList buf m) (sym d) ∙ w .puts)
+      (omega (arith, ap length d, w .rest), ap (putList buf m) (sym d) ∙ w .puts)
 
 -- ---- searched: the first difference that is not strict
 pub not-true : (b c : Bool) → b ≡ c → not b ≡ true → c ≡ false

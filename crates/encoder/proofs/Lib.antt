@@ -1,5 +1,7 @@
 pub mod Once
 pub mod Codes
+pub mod Holding
+pub mod Small
 pub mod Arrays
 pub mod Whole
 pub mod Rules

@@ -1,24 +1,24 @@
--- A code, as one write puts it. Assumes nothing.
+-- Bits as one number: a code, and codes joined. Assumes nothing.
 use Prim.Native.Nat.{ℕ, zero, suc, _+_, _*_, _/_, _%_, _^_, _≤_, _<_}
-use mathlib.Core.Path.{_≡_, sym, ap, ap₂, _∙_}
+use mathlib.Core.Path.{_≡_, sym, ap, ap₂, _∙_, subst}
 use mathlib.Core.List.{List, _++_}
 use native.Mathlib.Nat.{mod-eq-of-lt, mod-lt, zero-mul}
 use native.Mathlib.Omega.{arith}
 use lib.ListN.{length, length-append}
 use lib.IntN.{ℤ, pos}
-use lib.Pow.{pow-pos}
-use Rattle.bits.specs.Bits.{putBits}
+use lib.Arith.{digits-lt}
+use lib.Pow.{pow-pos, pow-add}
 use Rattle.bits.specs.Signed.{lowBits}
 use Rattle.gorilla.specs.declared.Row.{Row}
 use Rattle.gorilla.specs.Rows.{rowOf}
 use Rattle.gorilla.specs.BitList.{natBits, natFrom}
-use Rattle.gorilla.specs.Places.{putList}
 use Rattle.gorilla.specs.Format.{codeBits}
 use Rattle.gorilla.proofs.Bridge.{length-natBits}
 use Rattle.gorilla.proofs.Taking.{one-more}
 use Rattle.gorilla.proofs.Trip.{rows}
-use Rattle.gorilla.proofs.Putting.{put-nat}
 use Rattle.gorilla.proofs.Packing.{nat-from, from-append, bits-append, bits-natBits}
+use Rattle.encoder.specs.declared.Held.{Held}
+use Rattle.encoder.specs.Parts.{heldBits, Fits}
 
 from-nat : (v n x : ℕ) → natFrom v (natBits n x) ≡ v * 2 ^ n + x % 2 ^ n
 unfolding natFrom natBits
@@ -43,16 +43,20 @@ small = rows Small (omega arith, omega arith, omega arith) (omega arith, omega a
 pub low-lt : (w : ℕ) (d : ℤ) → lowBits w d < 2 ^ w
 low-lt w d = mod-lt _ (pow-pos w)
 
--- prefix and low bits as one number
-pub code-once : (s u : List ℕ) (q v : ℕ) (d : ℤ) (r : Row) (x : ℕ) → r ≡ rowOf d → x ≡ lowBits ((rowOf d) .width) d
-    → v ≡ r .prefix * 2 ^ r .width + x → u ≡ putList s q (natBits (r .«prefix_bits» + r .width) v) → u ≡ putList s q (codeBits d)
+-- ---- bits that are joined
+module _ (a b h : Held) (f : Fits a) (g : Fits b) (e : h ≡ record { value = a .value * 2 ^ b .width + b .value; width = a .width + b .width }) where
+  pub joined-bits : heldBits h ≡ heldBits a ++ heldBits b
+  joined-bits = ap heldBits e ∙ nat-join (a .width) (b .width) (a .value) (b .value) f g
+
+  pub joined-fits : Fits h
+  joined-fits = subst Fits (sym e) (omega (arith, digits-lt f g, pow-add 2 (a .width) (b .width)))
+
+-- prefix and low bits of a row
+pub code-joined : (d : ℤ) (r : Row) (x : ℕ) → r ≡ rowOf d → x ≡ lowBits ((rowOf d) .width) d → natBits (r .«prefix_bits») (r .prefix) ++ natBits (r .width) x ≡ codeBits d
 unfolding codeBits
-code-once s u q v d r x e f g h =
-    h ∙ ap (λ (z : ℕ). putList s q (natBits (r .«prefix_bits» + r .width) z)) g
-    ∙ ap₂ (λ (y : Row) (m : ℕ). putList s q (natBits (y .«prefix_bits» + y .width) (y .prefix * 2 ^ y .width + m))) e f
-    ∙ ap (putList s q) (nat-join ((rowOf d) .«prefix_bits») ((rowOf d) .width) ((rowOf d) .prefix) (lowBits ((rowOf d) .width) d) (small d .0) (low-lt ((rowOf d) .width) d))
+code-joined d r x e f = ap₂ (λ (y : Row) (m : ℕ). natBits (y .«prefix_bits») (y .prefix) ++ natBits (y .width) m) e f
 
 -- the first row: one zero bit
-pub zero-put : (s u : List ℕ) (q : ℕ) (d : ℤ) → d ≡ pos 0 → u ≡ putBits s q 0 1 → (u ≡ putList s q (codeBits d)) × (length (codeBits d) ≡ 1)
+pub zero-code : (d : ℤ) → d ≡ pos 0 → natBits 1 0 ≡ codeBits d
 unfolding codeBits natBits rowOf
-zero-put s u q d e h = (h ∙ put-nat s q 0 1 ∙ ap (λ (z : ℤ). putList s q (codeBits z)) (sym e), ap (λ (z : ℤ). length (codeBits z)) e)
+zero-code d e = ap codeBits (sym e)

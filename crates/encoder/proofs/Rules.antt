@@ -50,10 +50,6 @@ module _ (seqs : List ℕ) (secs : List ℤ) where
       (λ _ _ g. given-not-refused g)
       (λ e f g. record { same = e; few = f; bytes-are = same-gift g })
 
-  -- what follows then decides
-  pub room-passed : (bytes n : ℕ) → Passed bytes n → (room : ℕ) → roomRule n room ≡ arraysRule seqs secs (roomRule bytes room)
-  room-passed bytes n p room = ap (λ (k : ℕ). roomRule k room) (p .bytes-are) ∙ sym (passed (roomRule bytes room) (p .same) (p .few))
-
   -- one that is refused: so is whatever follows
   pub len-refused : (bytes : ℕ) (l : List ℕ) (next : Told ℕ) → refused l ≡ arraysRule seqs secs (gave bytes) → refused l ≡ arraysRule seqs secs next
   len-refused bytes l next h = by-case (gave bytes) (refused l) h

@@ -1,5 +1,5 @@
 -- An image: its length, and the buffer that its parts are written into. Assumes nothing.
-use Prim.Native.Nat.{ℕ, suc, _+_, _≤_}
+use Prim.Native.Nat.{ℕ, suc, _+_, _*_, _≤_}
 use mathlib.Core.Path.{_≡_, sym, ap, ap₂, _∙_}
 use mathlib.Core.List.{List, [], _∷_, _++_, map}
 use native.Mathlib.Nat.{add-zero, zero-add}
@@ -23,9 +23,9 @@ image-length seqs secs =
     let B : List ℕ = arrayBytes secs in
     omega (arith, length-append A B, length-packed (arrayBits (map signed seqs)), length-packed (arrayBits secs))
 
--- of at most 65,536 pairs
-pub image-most : (seqs : List ℕ) (secs : List ℤ) → length seqs ≡ length secs → length seqs ≤ 65536 → length (imageBytes seqs secs) ≤ 589845
-image-most seqs secs e h = omega (arith, image-length seqs secs, array-most (map signed seqs), array-most secs, length-map seqs signed)
+-- at 36 bits a code
+pub image-most : (seqs : List ℕ) (secs : List ℤ) → length seqs ≡ length secs → length (imageBytes seqs secs) ≤ length seqs * 9 + 21
+image-most seqs secs e = omega (arith, image-length seqs secs, array-most (map signed seqs), array-most secs, length-map seqs signed)
 
 -- ---- bytes written one after the other
 sets-append : (s : List ℕ) (i : ℕ) (a b : List ℕ) → sets s i (a ++ b) ≡ sets (sets s i a) (i + length a) b

@@ -10,13 +10,17 @@ ghost use Rattle.gorilla.specs.BitList.{natBits, byteLen};
 ghost use Rattle.gorilla.specs.Places.{putList};
 ghost use Rattle.gorilla.specs.Format.{arrayBits, arrayBytes};
 ghost use Rattle.encoder.specs.Parts.{codesOf};
+use crate::Held;
+use crate::code::code_of;
+use crate::code::joined;
 use crate::code::put;
-use crate::code::write_code;
+use crate::code::takes_zero;
 use bits::Place;
 use gorilla::Track;
 use gorilla::inner::advance;
 
-// The codes of the sequences after the first.
+// The codes of the sequences after the first, put a word at a time. A zero bit is by far the most frequent code, so that it
+// is joined without a look at the rows.
 fn write_seq_codes(buf: &mut [u8], at: Place, seqs: &[u64]) -> Place
     requires { ⌜ (1 ≤ length (now seqs)) × (at .bit < 8) × (at .byte * 8 + at .bit + length (codesOf (map signed (now seqs))) ≤ length (now buf) * 8) ⌝ }
     ensures place { λ r. ⌜ r ≡ placeOf (at .byte * 8 + at .bit + length (codesOf (map signed (now (seqs .entry))))) ⌝ }
@@ -27,18 +31,29 @@ fn write_seq_codes(buf: &mut [u8], at: Place, seqs: &[u64]) -> Place
         delta: 0,
     };
     let mut p = at;
+    let mut held = Held { value: 0, width: 0 };
     let mut i: usize = 1;
     while i < seqs.len() {
         let c = advance(t, bits::as_signed(seqs[i]));
-        p = write_code(buf, p, c.dod);
         let next = c.next;
         t = next;
         i += 1;
+        if takes_zero(held.width, c.dod) {
+            held = joined(held, Held { value: 0, width: 1 });
+            continue;
+        }
+        let code = code_of(c.dod);
+        if held.width + code.width <= 64 {
+            held = joined(held, code);
+            continue;
+        }
+        p = put(buf, p, held.value, held.width);
+        held = code;
     }
-    p
+    put(buf, p, held.value, held.width)
 }
 
-// The codes of the seconds after the first.
+// The codes of the seconds after the first, likewise.
 fn write_sec_codes(buf: &mut [u8], at: Place, secs: &[i64]) -> Place
     requires { ⌜ (1 ≤ length (now secs)) × (at .bit < 8) × (at .byte * 8 + at .bit + length (codesOf (now secs)) ≤ length (now buf) * 8) ⌝ }
     ensures place { λ r. ⌜ r ≡ placeOf (at .byte * 8 + at .bit + length (codesOf (now (secs .entry)))) ⌝ }
@@ -50,15 +65,26 @@ fn write_sec_codes(buf: &mut [u8], at: Place, secs: &[i64]) -> Place
         delta: 0,
     };
     let mut p = at;
+    let mut held = Held { value: 0, width: 0 };
     let mut i: usize = 1;
     while i < secs.len() {
         let c = advance(t, secs[i]);
-        p = write_code(buf, p, c.dod);
         let next = c.next;
         t = next;
         i += 1;
+        if takes_zero(held.width, c.dod) {
+            held = joined(held, Held { value: 0, width: 1 });
+            continue;
+        }
+        let code = code_of(c.dod);
+        if held.width + code.width <= 64 {
+            held = joined(held, code);
+            continue;
+        }
+        p = put(buf, p, held.value, held.width);
+        held = code;
     }
-    p
+    put(buf, p, held.value, held.width)
 }
 
 // The count and the first value of an array.

@@ -1,16 +1,19 @@
-// One code, written at a place.
+// The bits of codes, and bits written at a place.
 ghost use mathlib.Core.Path.{_≡_};
+ghost use mathlib.Core.Bool.{true};
 ghost use Prim.Native.Nat.{_+_, _*_, _^_, _≤_, _<_};
 ghost use lib.ListN.{length};
+ghost use lib.IntN.{pos};
 ghost use Rattle.bits.specs.Place.{placeOf};
 ghost use Rattle.gorilla.specs.BitList.{natBits};
 ghost use Rattle.gorilla.specs.Places.{putList};
 ghost use Rattle.gorilla.specs.Format.{codeBits};
+ghost use Rattle.encoder.specs.Parts.{heldBits, Fits};
+use crate::Held;
 use bits::Place;
 use bits::inner::after;
 use bits::inner::low_bits;
 use bits::inner::put_bits;
-use bits::inner::put_zero;
 use gorilla::inner::row_of;
 
 // The low `width` bits of a value, and the place after them.
@@ -23,40 +26,43 @@ pub fn put(buf: &mut [u8], at: Place, value: u64, width: u8) -> Place
     after(at, width)
 }
 
-// A prefix and the low bits after it, as one number.
-fn joined(prefix: u64, width: u8, low: u64) -> u64
-    requires { ⌜ (prefix < 16) × (width ≤ 32) × (low < 2 ^ width) ⌝ }
-    ensures { λ r. ⌜ r ≡ prefix * 2 ^ width + low ⌝ }
+// The bits of `a`, then those of `b`.
+pub fn joined(a: Held, b: Held) -> Held
+    requires { ⌜ Fits a × Fits b × (a .width + b .width ≤ 64) × (b .width < 64) ⌝ }
+    ensures { λ r. ⌜ r ≡ record { value = a .value * 2 ^ b .width + b .value; width = a .width + b .width } ⌝ }
 {
-    (prefix << width) + low
+    Held {
+        value: (a.value << b.width) + b.value,
+        width: a.width + b.width,
+    }
 }
 
-// A code by its row, prefix and low bits in one write.
-fn write_row(buf: &mut [u8], at: Place, dod: i64) -> Place
-    requires { ⌜ (at .bit < 8) × (at .byte * 8 + at .bit + length (codeBits dod) ≤ length (now buf) * 8) ⌝ }
-    ensures place { λ r. ⌜ r ≡ placeOf (at .byte * 8 + at .bit + length (codeBits dod)) ⌝ }
-    ensures buf { λ r. ⌜ now (buf .exit) ≡ putList (now (buf .entry)) (at .byte * 8 + at .bit) (codeBits dod) ⌝ }
+// The bits of a difference's code: the prefix of its row, and the low bits after it.
+pub fn code_of(dod: i64) -> Held
+    ensures bits { λ r. ⌜ heldBits r ≡ codeBits dod ⌝ }
+    ensures size { λ r. ⌜ Fits r × (r .width ≤ 36) ⌝ }
 {
     let row = row_of(dod);
     let width = row.width;
     let low = low_bits(dod, width);
-    put(
-        buf,
-        at,
-        joined(row.prefix, width, low),
-        row.prefix_bits + width,
+    joined(
+        Held {
+            value: row.prefix,
+            width: row.prefix_bits,
+        },
+        Held {
+            value: low,
+            width: width,
+        },
     )
 }
 
-// The code of a difference of deltas. The first row, a zero bit, is by far the most frequent one.
-pub fn write_code(buf: &mut [u8], at: Place, dod: i64) -> Place
-    requires { ⌜ (at .bit < 8) × (at .byte * 8 + at .bit + length (codeBits dod) ≤ length (now buf) * 8) ⌝ }
-    ensures place { λ r. ⌜ r ≡ placeOf (at .byte * 8 + at .bit + length (codeBits dod)) ⌝ }
-    ensures buf { λ r. ⌜ now (buf .exit) ≡ putList (now (buf .entry)) (at .byte * 8 + at .bit) (codeBits dod) ⌝ }
+// Whether a difference's code is a zero bit that a word of so many bits has room for.
+pub fn takes_zero(width: u8, dod: i64) -> bool
+    ensures { λ r. ⌜ (r ≡ true → (width < 64) × (dod ≡ pos 0)) ⌝ }
 {
     if dod == 0 {
-        put_zero(buf, at.byte, at.bit);
-        return after(at, 1);
+        return width < 64;
     }
-    write_row(buf, at, dod)
+    false
 }

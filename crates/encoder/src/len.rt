@@ -1,11 +1,12 @@
-// The length of an image, counted before a byte of it is written.
+// The length of an image, and a bound of it that needs no count.
 ghost use mathlib.Core.Path.{_≡_};
 ghost use mathlib.Core.List.{map};
-ghost use Prim.Native.Nat.{_≤_};
+ghost use Prim.Native.Nat.{_+_, _*_, _≤_};
 ghost use lib.ListN.{length};
 ghost use Rattle.bits.specs.Signed.{signed};
-ghost use Rattle.gorilla.specs.Format.{codeBits, arrayBits};
-ghost use Rattle.encoder.specs.Encode.{toldLen, lenRule};
+ghost use Rattle.bits.specs.Told.{gave};
+ghost use Rattle.gorilla.specs.Format.{codeBits, arrayBits, imageBytes};
+ghost use Rattle.encoder.specs.Encode.{toldLen, arraysRule, lenRule};
 use crate::EncodedLen;
 use crate::Refusal;
 use gorilla::Track;
@@ -72,8 +73,17 @@ fn secs_bits(secs: &[i64]) -> usize
     total
 }
 
-pub fn encoded_len(seqs: &[u64], secs: &[i64]) -> EncodedLen
-    ensures { λ r. ⌜ toldLen r ≡ lenRule (now (seqs .entry)) (now (secs .entry)) ⌝ }
+// The bytes of the image.
+pub fn image_bytes(seqs: &[u64], secs: &[i64]) -> usize
+    requires { ⌜ (length (now seqs) ≤ 65536) × (length (now secs) ≤ 65536) ⌝ }
+    ensures { λ r. ⌜ r ≡ length (imageBytes (now (seqs .entry)) (now (secs .entry))) ⌝ }
+{
+    5 + (seqs_bits(seqs) + 7) / 8 + (secs_bits(secs) + 7) / 8
+}
+
+// The most bytes that an image of so many pairs has, at 36 bits a code; or 18, 19.
+pub fn most_bytes(seqs: &[u64], secs: &[i64]) -> EncodedLen
+    ensures { λ r. ⌜ toldLen r ≡ arraysRule (now (seqs .entry)) (now (secs .entry)) (gave (length (now (seqs .entry)) * 9 + 21)) ⌝ }
 {
     if seqs.len() != secs.len() {
         return EncodedLen::Refused(Refusal::LengthsDiffer);
@@ -81,5 +91,14 @@ pub fn encoded_len(seqs: &[u64], secs: &[i64]) -> EncodedLen
     if seqs.len() > MOST {
         return EncodedLen::Refused(Refusal::TooMany);
     }
-    EncodedLen::Bytes(5 + (seqs_bits(seqs) + 7) / 8 + (secs_bits(secs) + 7) / 8)
+    EncodedLen::Bytes(seqs.len() * 9 + 21)
+}
+
+pub fn encoded_len(seqs: &[u64], secs: &[i64]) -> EncodedLen
+    ensures { λ r. ⌜ toldLen r ≡ lenRule (now (seqs .entry)) (now (secs .entry)) ⌝ }
+{
+    match most_bytes(seqs, secs) {
+        EncodedLen::Bytes(_) => EncodedLen::Bytes(image_bytes(seqs, secs)),
+        EncodedLen::Refused(refusal) => EncodedLen::Refused(refusal),
+    }
 }

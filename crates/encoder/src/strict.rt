@@ -1,10 +1,14 @@
 // The first difference of deltas outside -2^31..2^31-1.
 ghost use mathlib.Core.Path.{_≡_};
 ghost use mathlib.Core.List.{map};
+ghost use Prim.Native.Nat.{_≤_};
+ghost use lib.ListN.{length};
 ghost use Rattle.bits.specs.Signed.{signed};
 ghost use Rattle.gorilla.specs.Wide.{wideIn, wideOf};
 ghost use Rattle.encoder.specs.Parts.{foundWide};
 use crate::FirstWide;
+use crate::calm::calm_secs;
+use crate::calm::calm_seqs;
 use gorilla::Array;
 use gorilla::Track;
 use gorilla::inner::advance;
@@ -59,12 +63,35 @@ fn first_wide_sec(secs: &[i64]) -> FirstWide
     FirstWide::None
 }
 
+// Among the sequences, with no search where their deltas are small.
+fn wide_seq(seqs: &[u64]) -> FirstWide
+    requires { ⌜ length (now seqs) ≤ 65536 ⌝ }
+    ensures { λ r. ⌜ foundWide r ≡ wideIn 0 (map signed (now (seqs .entry))) ⌝ }
+{
+    if calm_seqs(seqs) {
+        return FirstWide::None;
+    }
+    first_wide_seq(seqs)
+}
+
+// Among the seconds, likewise.
+fn wide_sec(secs: &[i64]) -> FirstWide
+    requires { ⌜ length (now secs) ≤ 65536 ⌝ }
+    ensures { λ r. ⌜ foundWide r ≡ wideIn 1 (now (secs .entry)) ⌝ }
+{
+    if calm_secs(secs) {
+        return FirstWide::None;
+    }
+    first_wide_sec(secs)
+}
+
 // Sequences before seconds.
 pub fn first_wide(seqs: &[u64], secs: &[i64]) -> FirstWide
+    requires { ⌜ (length (now seqs) ≤ 65536) × (length (now secs) ≤ 65536) ⌝ }
     ensures { λ r. ⌜ foundWide r ≡ wideOf (now (seqs .entry)) (now (secs .entry)) ⌝ }
 {
-    match first_wide_seq(seqs) {
-        FirstWide::None => first_wide_sec(secs),
+    match wide_seq(seqs) {
+        FirstWide::None => wide_sec(secs),
         FirstWide::At(a, i) => FirstWide::At(a, i),
     }
 }

@@ -46,7 +46,7 @@ fn encoded_strictly(seqs: &[u64], secs: &[i64], out: &mut [u8]) -> usize {
     }
 }
 
-// Whether both encoders and the length say what the Rust does of a list whose image is `want`.
+// Whether the length and the encoder give the image `want`.
 fn encoding_so(seqs: &[u64], secs: &[i64], want: &[u8]) -> bool {
     let mut out = [255u8; 4096];
     if counted(seqs, secs) != want.len() {
@@ -58,6 +58,7 @@ fn encoding_so(seqs: &[u64], secs: &[i64], want: &[u8]) -> bool {
     begins(&out, want)
 }
 
+// Whether the strict encoder writes that image, or refuses a list that does not read back.
 fn strict_so(seqs: &[u64], secs: &[i64], want: &[u8], same: usize) -> bool {
     let mut out = [255u8; 4096];
     let n = encoded_strictly(seqs, secs, &mut out);
@@ -70,20 +71,32 @@ fn strict_so(seqs: &[u64], secs: &[i64], want: &[u8], same: usize) -> bool {
     begins(&out, want)
 }
 
+// Whether the image reads back as the list of a record E.
+fn reads_back(b: &[u8], image: &[u8]) -> bool {
+    let mut seqs = [0u64; lists::LISTED];
+    let mut secs = [0i64; lists::LISTED];
+    let n = u8_at(b, 0);
+    let got = told::decoded(image, &mut seqs, &mut secs);
+    if !told::is_so(got, 0, 0, n) {
+        return false;
+    }
+    lists::values_so(b, 2, n, &seqs, &secs)
+}
+
 fn list(b: &[u8], seqs: &[u64], secs: &[i64], tally: &mut [u64; tally::PLACES]) {
     let n = u8_at(b, 0);
     let want = part(b, 2 + 16 * n, b.len());
     tally::note(tally, tally::ENCODINGS, encoding_so(seqs, secs, want));
-    let agreed = strict_so(seqs, secs, want, u8_at(b, 1));
+    let same = u8_at(b, 1);
+    let agreed = strict_so(seqs, secs, want, same) & (reads_back(b, want) == (same == 1));
     tally::note(tally, tally::READBACKS, agreed);
 }
 
 pub fn listed(b: &[u8], tally: &mut [u64; tally::PLACES]) {
     let n = u8_at(b, 0);
-    let mut seqs = [0u64; 64];
-    let mut secs = [0i64; 64];
-    lists::read_seqs(b, 2, n, &mut seqs);
-    lists::read_secs(b, 2 + 8 * n, n, &mut secs);
+    let mut seqs = [0u64; lists::LISTED];
+    let mut secs = [0i64; lists::LISTED];
+    lists::read_pairs(b, 2, n, &mut seqs, &mut secs);
     list(
         b,
         lists::first_seqs(&seqs, n),
@@ -100,6 +113,7 @@ fn image_so(b: &[u8], image: &[u8]) -> bool {
     digest::of_bytes(image) == u64_at(b, 65)
 }
 
+// Whether an image reads back as the lists whose digests a record Y has.
 fn read_back_so(b: &[u8], image: &[u8], n: usize) -> bool {
     let mut seqs = [0u64; 8192];
     let mut secs = [0i64; 8192];

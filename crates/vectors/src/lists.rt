@@ -1,4 +1,5 @@
 // Lists of sequences and of seconds: read from a body, compared with one, and made by a rule.
+ghost use Prim.Native.Nat.{_<_};
 use crate::body::after;
 use crate::body::i64_at;
 use crate::body::u32_at;
@@ -50,7 +51,7 @@ pub fn sec_of(s: &[i64], i: usize) -> u64 {
     0
 }
 
-pub fn read_seqs(b: &[u8], from: usize, n: usize, to: &mut [u64]) {
+fn read_seqs(b: &[u8], from: usize, n: usize, to: &mut [u64]) {
     let mut at = from;
     let mut i = 0;
     while i < n {
@@ -60,7 +61,7 @@ pub fn read_seqs(b: &[u8], from: usize, n: usize, to: &mut [u64]) {
     }
 }
 
-pub fn read_secs(b: &[u8], from: usize, n: usize, to: &mut [i64]) {
+fn read_secs(b: &[u8], from: usize, n: usize, to: &mut [i64]) {
     let mut at = from;
     let mut i = 0;
     while i < n {
@@ -68,6 +69,14 @@ pub fn read_secs(b: &[u8], from: usize, n: usize, to: &mut [i64]) {
         at = after(at, 8);
         i += 1;
     }
+}
+
+// The n pairs that a body lists: the sequences, then the seconds.
+pub fn read_pairs(b: &[u8], from: usize, n: usize, seqs: &mut [u64], secs: &mut [i64])
+    requires { ⌜ n < 256 ⌝ }
+{
+    read_seqs(b, from, n, seqs);
+    read_secs(b, after(from, 8 * n), n, secs);
 }
 
 // Whether the first n sequences are those of a body.

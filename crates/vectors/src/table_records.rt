@@ -202,8 +202,7 @@ pub fn extended(b: &[u8], table: SequenceTracker, seqs: &mut [u64], secs: &mut [
     let mut from_seqs = [0u64; 8192];
     let mut from_secs = [0i64; 8192];
     let n = u8_at(b, 12);
-    lists::read_seqs(b, 13, n, &mut from_seqs);
-    lists::read_secs(b, 13 + 8 * n, n, &mut from_secs);
+    lists::read_pairs(b, 13, n, &mut from_seqs, &mut from_secs);
     let other = other_of(b, n, last_of(&from_secs, n));
     let told = log::extend_from(table, seqs, secs, other, &from_seqs, &from_secs);
     extended_so(b, extended_of(told, table))

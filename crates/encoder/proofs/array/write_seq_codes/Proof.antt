@@ -10,15 +10,18 @@ use mir.Val.{SFits, toZ, ofZ}
 use mir.Facts.{toZ-ofZ}
 use Rattle.bits.specs.Signed.{signed}
 use Rattle.gorilla.specs.Steps.{advanced}
-use Rattle.encoder.proofs.Codes.{Written, write-first, write-room, write-next, write-last}
+use Rattle.gorilla.proofs.Putting.{length-putList}
+use Rattle.encoder.specs.declared.Held.{Held}
+use Rattle.encoder.proofs.Once.{zero-code}
+use Rattle.encoder.proofs.Holding.{Holding, hold-first, hold-same, hold-room, hold-more, hold-put, hold-last}
 use Rattle.encoder.proofs.array.write_seq_codes.Statement.{statement}
 use Rattle.encoder.proofs.array.write_seq_codes.Tie as tie
 
 abbrev Inv-loop : tie.InvT-loop
-Inv-loop buf₀ seqs t₀ p₀ i₀ buf t p i = (1 ≤ i) × (length (map signed seqs) ≡ length seqs) × Written (map signed seqs) buf₀ (p₀ .byte * 8 + p₀ .bit) buf p t i
+Inv-loop buf₀ seqs t₀ p₀ held₀ i₀ buf t p held i = (1 ≤ i) × (length (map signed seqs) ≡ length seqs) × Holding (map signed seqs) buf₀ (p₀ .byte * 8 + p₀ .bit) buf p held t i
 
 abbrev μ-loop : tie.MeasureT-loop
-μ-loop buf₀ seqs t₀ p₀ i₀ buf t p i = length seqs - i
+μ-loop buf₀ seqs t₀ p₀ held₀ i₀ buf t p held i = length seqs - i
 
 abbrev seqs-of : tie.At-loop Inv-loop μ-loop → List ℕ
 seqs-of al = al .before .before .before .before .before .args .seqs .now
@@ -60,7 +63,7 @@ loop-holds : tie.Need-loop-holds Inv-loop μ-loop
 loop-holds c =
     let st = c .before .before .before .before in
     let s = st .args .seqs .now in
-    (omega arith, length-map s signed, write-first (map signed s) (st .args .buf .now) (st .args .at) _ (omega (arith, length-map s signed, st .pre .0)) (st .pre .1) (first-is c))
+    (omega arith, length-map s signed, hold-first (map signed s) (st .args .buf .now) (st .args .at) _ (omega (arith, length-map s signed, st .pre .0)) (st .pre .1) (first-is c))
 
 mul-as-signed : tie.Need-mul-as-signed Inv-loop μ-loop
 mul-as-signed c = search needs
@@ -74,40 +77,116 @@ as-signed-requires-2 c κs = search needs
 advance-requires : tie.Need-advance-requires Inv-loop μ-loop
 advance-requires c κs = search needs
 
-write-code-requires : tie.Need-write-code-requires Inv-loop μ-loop
-write-code-requires c κs =
-    let ad = c .before .before in
-    let al = al-of ad in (
-      al .loop .inv .2 .low,
-      write-room (map signed (seqs-of al)) ((st-of al) .args .buf .now) (q-of al) (al .loop .buf) (al .loop .p) (al .loop .t) (al .loop .i) (al .loop .inv .2)
-          (in-array ad) (ad .advance .result) (z-of ad) (adv-is ad) (d-is ad) ((st-of al) .pre .2),
-    )
-
 add-i : tie.Need-add-i Inv-loop μ-loop
 add-i c = search needs
+
+takes-zero-requires : tie.Need-takes-zero-requires Inv-loop μ-loop
+takes-zero-requires c κs = search needs
+
+abbrev ad-of : tie.After-takes-zero Inv-loop μ-loop → tie.After-advance Inv-loop μ-loop
+ad-of tz = tz .before .before .before
+
+joined-requires : tie.Need-joined-requires Inv-loop μ-loop
+joined-requires c κs =
+    let al = al-of (ad-of (c .before)) in
+    let z = c .before .takes-zero .ensures (c .if1 .taken) in
+    (al .loop .inv .2 .fits, omega arith, omega (arith, z .0), omega arith)
 
 loop-less : tie.Need-loop-less Inv-loop μ-loop
 loop-less c = search needs
 
 loop-again : tie.Need-loop-again Inv-loop μ-loop
 loop-again c =
-    let wc = c .before .before .before in
-    let ad = wc .before .before .before in
+    let t1 = c .before in
+    let ad = ad-of (t1 .before) in
+    let al = al-of ad in
+    let z = t1 .before .takes-zero .ensures (t1 .if1 .taken) in (
+      omega arith,
+      al .loop .inv .1,
+      hold-more (map signed (seqs-of al)) ((st-of al) .args .buf .now) (q-of al) (al .loop .buf) (al .loop .p) (al .loop .held) (al .loop .t) (al .loop .i) (al .loop .inv .2)
+          (in-array ad) (ad .advance .result) (z-of ad) (adv-is ad) (d-is ad) (record { value = 0; width = 1 }) (zero-code (z-of ad) (z .1)) (omega arith) (c .joined .result) (omega (arith, z .0)) (c .joined .ensures),
+    )
+
+code-of-requires : tie.Need-code-of-requires Inv-loop μ-loop
+code-of-requires c κs = search needs
+
+-- past the code
+abbrev ad2-of : tie.After-code-of Inv-loop μ-loop → tie.After-advance Inv-loop μ-loop
+ad2-of co = ad-of (co .before .before .before)
+
+abbrev co-of : tie.After-struct-known2 Inv-loop μ-loop → tie.After-code-of Inv-loop μ-loop
+co-of k = k .before .before
+
+add-if2 : tie.Need-add-if2 Inv-loop μ-loop
+add-if2 c = let al = al-of (ad2-of (co-of c)) in omega (arith, al .loop .inv .2 .most, (co-of c) .code-of .ensures .1 .1)
+
+joined-requires-2 : tie.Need-joined-requires-2 Inv-loop μ-loop
+joined-requires-2 c κs =
+    let co = co-of (c .before) in
+    let al = al-of (ad2-of co) in
+    (al .loop .inv .2 .fits, co .code-of .ensures .1 .0, omega (arith, c .if2 .taken), omega (arith, co .code-of .ensures .1 .1))
+
+loop-less-2 : tie.Need-loop-less-2 Inv-loop μ-loop
+loop-less-2 c = search needs
+
+loop-again-2 : tie.Need-loop-again-2 Inv-loop μ-loop
+loop-again-2 c =
+    let t2 = c .before in
+    let co = co-of (t2 .before) in
+    let ad = ad2-of co in
     let al = al-of ad in (
       omega arith,
       al .loop .inv .1,
-      write-next (map signed (seqs-of al)) ((st-of al) .args .buf .now) (q-of al) (al .loop .buf) (al .loop .p) (al .loop .t) (al .loop .i) (al .loop .inv .2)
-          (in-array ad) (ad .advance .result) (z-of ad) (adv-is ad) (d-is ad) (wc .write-code .last .0) (wc .write-code .result) (wc .write-code .ensures .0) (wc .write-code .ensures .1),
+      hold-more (map signed (seqs-of al)) ((st-of al) .args .buf .now) (q-of al) (al .loop .buf) (al .loop .p) (al .loop .held) (al .loop .t) (al .loop .i) (al .loop .inv .2)
+          (in-array ad) (ad .advance .result) (z-of ad) (adv-is ad) (d-is ad) (co .code-of .result) (co .code-of .ensures .0) (co .code-of .ensures .1 .0) (c .joined2 .result) (omega (arith, t2 .if2 .taken)) (c .joined2 .ensures),
+    )
+
+put-requires : tie.Need-put-requires Inv-loop μ-loop
+put-requires c κs =
+    let al = al-of (ad2-of (co-of (c .before .before))) in (
+      al .loop .inv .2 .low,
+      al .loop .inv .2 .most,
+      hold-room (map signed (seqs-of al)) ((st-of al) .args .buf .now) (q-of al) (al .loop .buf) (al .loop .p) (al .loop .held) (al .loop .t) (al .loop .i) (al .loop .inv .2)
+          ((st-of al) .pre .2),
+    )
+
+loop-less-3 : tie.Need-loop-less-3 Inv-loop μ-loop
+loop-less-3 c = search needs
+
+loop-again-3 : tie.Need-loop-again-3 Inv-loop μ-loop
+loop-again-3 c =
+    let pt = c .before .before in
+    let co = co-of (pt .before .before .before) in
+    let ad = ad2-of co in
+    let al = al-of ad in (
+      omega arith,
+      al .loop .inv .1,
+      hold-put (map signed (seqs-of al)) ((st-of al) .args .buf .now) (q-of al) (al .loop .buf) (al .loop .p) (al .loop .held) (al .loop .t) (al .loop .i) (al .loop .inv .2)
+          (in-array ad) (ad .advance .result) (z-of ad) (adv-is ad) (d-is ad) (co .code-of .result) (co .code-of .ensures .0) (co .code-of .ensures .1 .0) (pt .put .last .0) (pt .put .result) (omega (arith, co .code-of .ensures .1 .1)) (pt .put .ensures .0) (pt .put .ensures .1),
+    )
+
+put-requires-2 : tie.Need-put-requires-2 Inv-loop μ-loop
+put-requires-2 c κs =
+    let al = c .before .before in (
+      al .loop .inv .2 .low,
+      al .loop .inv .2 .most,
+      hold-room (map signed (seqs-of al)) ((st-of al) .args .buf .now) (q-of al) (al .loop .buf) (al .loop .p) (al .loop .held) (al .loop .t) (al .loop .i) (al .loop .inv .2)
+          ((st-of al) .pre .2),
     )
 
 same-length : tie.Need-same-length Inv-loop μ-loop
-same-length c = c .before .loop .inv .2 .same
+same-length c =
+    let pt = c .before .before in
+    let al = pt .before .before .before in
+    ap length (pt .put2 .ensures .1) ∙ length-putList _ _ _ ∙ hold-same (map signed (seqs-of al)) ((st-of al) .args .buf .now) (q-of al) (al .loop .buf) (al .loop .p) (al .loop .held) (al .loop .t) (al .loop .i) (al .loop .inv .2)
 
 returns : tie.Need-returns Inv-loop μ-loop
 returns c =
-    let al = c .before in
-    write-last (map signed (seqs-of al)) ((st-of al) .args .buf .now) (q-of al) (al .loop .buf) (al .loop .p) (al .loop .t) (al .loop .i) (al .loop .inv .2)
-    (omega (arith, al .loop .inv .1, c .loop-test .left))
+    let pt = c .before .before in
+    let af = pt .before .before in
+    let al = af .before in
+    hold-last (map signed (seqs-of al)) ((st-of al) .args .buf .now) (q-of al) (al .loop .buf) (al .loop .p) (al .loop .held) (al .loop .t) (al .loop .i) (al .loop .inv .2)
+    (omega (arith, al .loop .inv .1, af .loop-test .left)) (pt .put2 .last .0) (pt .put2 .result) (pt .put2 .ensures .0) (pt .put2 .ensures .1)
 
 pub write-seq-codes-spec : {M : Type 1} → statement M
 write-seq-codes-spec =
@@ -122,9 +201,19 @@ write-seq-codes-spec =
     shared-slice-read-as-signed-2
     as-signed-requires-2
     advance-requires
-    write-code-requires
     add-i
+    takes-zero-requires
+    joined-requires
     loop-less
     loop-again
+    code-of-requires
+    add-if2
+    joined-requires-2
+    loop-less-2
+    loop-again-2
+    put-requires
+    loop-less-3
+    loop-again-3
+    put-requires-2
     same-length
     returns)

@@ -4,24 +4,36 @@ use mathlib.Core.Path.{_≡_, sym, ap}
 use lib.Pow.{shl-exact, pow-add, pow-mono}
 use lib.Arith.{digits-lt}
 use borrow.Author.Needs.{needs}
+use Rattle.encoder.specs.declared.Held.{Held}
 use Rattle.encoder.proofs.code.joined.Statement.{statement}
 use Rattle.encoder.proofs.code.joined.Tie as tie
 
-whole : (p w x : ℕ) → p < 16 → w ≤ 32 → x < 2 ^ w → (p * 2 ^ w % 2 ^ 64 ≡ p * 2 ^ w) × (p * 2 ^ w + x < 2 ^ 36)
-whole p w x h k l =
-    let e : 2 ^ 4 * 2 ^ w ≡ 2 ^ (4 + w) = sym (pow-add 2 4 w) in
-    let m : 2 ^ (4 + w) ≤ 2 ^ 36 = let q : 4 + w ≤ 36 = omega arith in pow-mono q in
-    let n : p * 2 ^ w + x < 2 ^ 4 * 2 ^ w = digits-lt h l in
-    (shl-exact {a = p} 4 w 64 h (omega arith), omega (arith, e, m, n))
+whole : (p n w x : ℕ) → p < 2 ^ n → x < 2 ^ w → n + w ≤ 64 → (p * 2 ^ w % 2 ^ 64 ≡ p * 2 ^ w) × (p * 2 ^ w + x < 2 ^ 64)
+whole p n w x h k l =
+    let e : 2 ^ n * 2 ^ w ≡ 2 ^ (n + w) = sym (pow-add 2 n w) in
+    let m : 2 ^ (n + w) ≤ 2 ^ 64 = pow-mono l in
+    let b : p * 2 ^ w + x < 2 ^ n * 2 ^ w = digits-lt h k in
+    (shl-exact {a = p} n w 64 h l, omega (arith, e, m, b))
 
-shl-result : tie.Need-shl-result
-shl-result c = search needs
+whole-of : (st : tie.Start) → (st .args .a .value * 2 ^ st .args .b .width % 2 ^ 64 ≡ st .args .a .value * 2 ^ st .args .b .width) × (st .args .a .value * 2 ^ st .args .b .width + st .args .b .value < 2 ^ 64)
+whole-of st = whole (st .args .a .value) (st .args .a .width) (st .args .b .width) (st .args .b .value) (st .pre .0) (st .pre .1) (st .pre .2)
 
-add-result : tie.Need-add-result
-add-result c = let w = whole (c .args .prefix) (c .args .width) (c .args .low) (c .pre .0) (c .pre .1) (c .pre .2) in omega (arith, w)
+cast-t3 : tie.Need-cast-t3
+cast-t3 c = search needs
+
+shl-t4 : tie.Need-shl-t4
+shl-t4 c = search needs
+
+add-t5 : tie.Need-add-t5
+add-t5 c = omega (arith, whole-of (c .before .before .before))
+
+add-t6 : tie.Need-add-t6
+add-t6 c = search needs
 
 returns : tie.Need-returns
-returns c = let w = whole (c .args .prefix) (c .args .width) (c .args .low) (c .pre .0) (c .pre .1) (c .pre .2) in ap (λ (u : ℕ). u + c .args .low) (w .0)
+returns c =
+    let st = c .before .before .before .before .before in
+    ap (λ (u : ℕ). record { value = u + st .args .b .value; width = st .args .a .width + st .args .b .width }) ((whole-of st) .0)
 
 pub joined-spec : {M : Type 1} → statement M
-joined-spec = tie.close (tie.spec shl-result add-result returns)
+joined-spec = tie.close (tie.spec cast-t3 shl-t4 add-t5 add-t6 returns)

@@ -1,5 +1,6 @@
 use borrow.Author.Needs.{needs}
-use Prim.Native.Nat.{ℕ}
+use native.Mathlib.Omega.{arith}
+use Prim.Native.Nat.{ℕ, _+_, _*_}
 use mathlib.Core.Path.{_≡_, sym, ap, _∙_}
 use mathlib.Core.List.{List}
 use lib.ListN.{length}
@@ -14,47 +15,50 @@ use Rattle.encoder.proofs.Rules.{Passed, len-given, len-refused, passed
 use Rattle.encoder.proofs.image.encode_strict.Statement.{statement}
 use Rattle.encoder.proofs.image.encode_strict.Tie as tie
 
-abbrev st-of : tie.After-encoded-len → tie.Start
+abbrev st-of : tie.After-most-bytes → tie.Start
 st-of e = e .before .before .before
 
-abbrev seqs-of : tie.After-encoded-len → List ℕ
+abbrev seqs-of : tie.After-most-bytes → List ℕ
 seqs-of e = (st-of e) .args .seqs .now
 
-abbrev secs-of : tie.After-encoded-len → List ℤ
+abbrev secs-of : tie.After-most-bytes → List ℤ
 secs-of e = (st-of e) .args .secs .now
 
-abbrev out-of : tie.After-encoded-len → List ℕ
+abbrev out-of : tie.After-most-bytes → List ℕ
 out-of e = (st-of e) .args .out .now
 
 -- 21, or the image
-abbrev room-of : tie.After-encoded-len → Told ℕ
+abbrev room-of : tie.After-most-bytes → Told ℕ
 room-of e = roomRule (length (imageBytes (seqs-of e) (secs-of e))) (length (out-of e))
 
-passed-is : (e : tie.After-encoded-len) (n : ℕ) → e .encoded-len .result ≡ Bytes n → Passed (seqs-of e) (secs-of e) (length (imageBytes (seqs-of e) (secs-of e))) n
-passed-is e n h = len-given (seqs-of e) (secs-of e) _ n (ap toldLen (sym h) ∙ e .encoded-len .ensures)
+passed-is : (e : tie.After-most-bytes) (n : ℕ) → e .most-bytes .result ≡ Bytes n → Passed (seqs-of e) (secs-of e) (length (seqs-of e) * 9 + 21) n
+passed-is e n h = len-given (seqs-of e) (secs-of e) _ n (ap toldLen (sym h) ∙ e .most-bytes .ensures)
 
 -- 20, or what follows, is what the rule tells
-strict-is : (b : tie.After-bytes) (w : Wide) → w ≡ wideOf (seqs-of (b .before .before)) (secs-of (b .before .before))
+strict-is : (b : tie.After-most) (w : Wide) → w ≡ wideOf (seqs-of (b .before .before)) (secs-of (b .before .before))
     → wideRule w (room-of (b .before .before)) ≡ arraysRule (seqs-of (b .before .before)) (secs-of (b .before .before)) (wideRule (wideOf (seqs-of (b .before .before)) (secs-of (b .before .before))) (room-of (b .before .before)))
 strict-is b w h =
     let e = b .before .before in
-    let p = passed-is e _ (b .bytes .given .1) in
+    let p = passed-is e _ (b .most .given .1) in
     ap (λ (v : Wide). wideRule v (room-of e)) h ∙ sym (passed (seqs-of e) (secs-of e) _ (p .same) (p .few))
 
-encoded-len-requires : tie.Need-encoded-len-requires
-encoded-len-requires c κs = search needs
+most-bytes-requires : tie.Need-most-bytes-requires
+most-bytes-requires c κs = search needs
 
-enum-known-bytes : tie.Need-enum-known-bytes
-enum-known-bytes c = search needs
+enum-known-most : tie.Need-enum-known-most
+enum-known-most c = search needs
 
 first-wide-requires : tie.Need-first-wide-requires
-first-wide-requires c κs = search needs
+first-wide-requires c κs =
+    let b = c .before in
+    let p = passed-is (b .before .before) _ (b .most .given .1) in
+    (p .few, omega (arith, p .same, p .few))
 
 enum-told : tie.Need-enum-told
 enum-told c = search needs
 
 write-if-room-requires : tie.Need-write-if-room-requires
-write-if-room-requires c κs = let b = c .before .before .before .before .before in (passed-is (b .before .before) _ (b .bytes .given .1)) .bytes-are
+write-if-room-requires c κs = let b = c .before .before .before .before .before in let p = passed-is (b .before .before) _ (b .most .given .1) in (p .same, p .few, p .bytes-are)
 
 enum-known-a : tie.Need-enum-known-a
 enum-known-a c = search needs
@@ -72,8 +76,7 @@ returns c =
     let fw = et .before .before in
     let b = fw .before .before in
     let e = b .before .before in
-    let r =
-    ap (λ (n : ℕ). roomRule n (length (out-of e))) ((passed-is e _ (b .bytes .given .1)) .bytes-are) ∙ strict-is b _ (ap foundWide (sym (et .enum-told .given .1)) ∙ fw .first-wide .ensures) in
+    let r = strict-is b _ (ap foundWide (sym (et .enum-told .given .1)) ∙ fw .first-wide .ensures) in
     (wr .write-if-room .ensures .0 ∙ r, wr .write-if-room .ensures .1 ∙ ap (λ (t : Told ℕ). encodedIn (seqs-of e) (secs-of e) t (out-of e)) r)
 
 returns-2 : tie.Need-returns-2
@@ -89,15 +92,15 @@ returns-3 : tie.Need-returns-3
 returns-3 c =
     let rf = c .before in
     let e = rf .before .before in
-    let r = len-refused (seqs-of e) (secs-of e) _ _ (wideRule (wideOf (seqs-of e) (secs-of e)) (room-of e)) (ap toldLen (sym (rf .refusal .given .1)) ∙ e .encoded-len .ensures) in
+    let r = len-refused (seqs-of e) (secs-of e) _ _ (wideRule (wideOf (seqs-of e) (secs-of e)) (room-of e)) (ap toldLen (sym (rf .refusal .given .1)) ∙ e .most-bytes .ensures) in
     (r, ap (λ (t : Told ℕ). encodedIn (seqs-of e) (secs-of e) t (out-of e)) r)
 
 pub encode-strict-spec : {M : Type 1} → statement M
 encode-strict-spec =
     tie.close
     (tie.spec
-    encoded-len-requires
-    enum-known-bytes
+    most-bytes-requires
+    enum-known-most
     first-wide-requires
     enum-told
     write-if-room-requires

@@ -56,9 +56,11 @@ returns c =
     let ws = c .before .before in
     let q = ws .before .before .before .before in
     let h = h-of q in
-    let st = st-of h in
-    image-put (seqs-of st) (secs-of st) (st .args .out .now) (h .write-header .last .0) (q .write-seqs .last .0) (ws .write-secs .last .0) (q .write-seqs .result) (st .pre)
-    (h .write-header .ensures) (q .write-seqs .ensures .1) (q .write-seqs .ensures .0) (ws .write-secs .ensures .1)
+    let st = st-of h in (
+      omega (arith, image-length (seqs-of st) (secs-of st), q .write-seqs .ensures .0, ws .write-secs .ensures .0, length-packed (arrayBits (map signed (seqs-of st))), length-packed (arrayBits (secs-of st))),
+      image-put (seqs-of st) (secs-of st) (st .args .out .now) (h .write-header .last .0) (q .write-seqs .last .0) (ws .write-secs .last .0) (q .write-seqs .result) (st .pre)
+          (h .write-header .ensures) (q .write-seqs .ensures .1) (q .write-seqs .ensures .0) (ws .write-secs .ensures .1),
+    )
 
 pub write-image-spec : {M : Type 1} → statement M
 write-image-spec = tie.close (tie.spec write-header-requires write-seqs-requires write-secs-requires same-length returns)

@@ -1,68 +1,58 @@
 use borrow.Author.Needs.{needs}
 use native.Mathlib.Omega.{arith}
-use Prim.Native.Nat.{ℕ, _+_, _/_}
-use mathlib.Core.Path.{sym, ap, ap₂, _∙_}
-use mathlib.Core.List.{map}
-use lib.ListN.{length, length-map}
+use Prim.Native.Nat.{ℕ, _+_, _*_}
+use mathlib.Core.Path.{_≡_, sym, ap, _∙_}
+use mathlib.Core.List.{List}
+use lib.ListN.{length}
+use lib.IntN.{ℤ}
 use Rattle.bits.specs.Told.{gave}
-use Rattle.bits.specs.Signed.{signed}
 use Rattle.gorilla.specs.Format.{imageBytes}
-use Rattle.encoder.proofs.Codes.{array-most}
-use Rattle.encoder.proofs.Whole.{image-length}
-use Rattle.encoder.proofs.Rules.{differ, many, passed}
+use Rattle.encoder.specs.declared.EncodedLen.the-variants.{Bytes}
+use Rattle.encoder.specs.Encode.{toldLen}
+use Rattle.encoder.proofs.Rules.{Passed, len-given, len-refused, passed}
 use Rattle.encoder.proofs.len.encoded_len.Statement.{statement}
 use Rattle.encoder.proofs.len.encoded_len.Tie as tie
 
+abbrev seqs-of : tie.After-most-bytes → List ℕ
+seqs-of m = m .before .before .args .seqs .now
+
+abbrev secs-of : tie.After-most-bytes → List ℤ
+secs-of m = m .before .before .args .secs .now
+
+passed-is : (m : tie.After-most-bytes) (n : ℕ) → m .most-bytes .result ≡ Bytes n → Passed (seqs-of m) (secs-of m) (length (seqs-of m) * 9 + 21) n
+passed-is m n h = len-given (seqs-of m) (secs-of m) _ n (ap toldLen (sym h) ∙ m .most-bytes .ensures)
+
+most-bytes-requires : tie.Need-most-bytes-requires
+most-bytes-requires c κs = search needs
+
+enum-told : tie.Need-enum-told
+enum-told c = search needs
+
+image-bytes-requires : tie.Need-image-bytes-requires
+image-bytes-requires c κs = let p = passed-is (c .before .before) _ (c .enum-told .given .1) in (p .few, omega (arith, p .same, p .few))
+
+enum-known-refusal : tie.Need-enum-known-refusal
+enum-known-refusal c = search needs
+
 returns : tie.Need-returns
-returns c = let st = c .before .before in differ (st .args .seqs .now) (st .args .secs .now) _ (c .if1 .taken)
+returns c =
+    let m = c .before .before .before in
+    let p = passed-is m _ (c .before .enum-told .given .1) in
+    ap gave (c .image-bytes .ensures) ∙ sym (passed (seqs-of m) (secs-of m) (gave (length (imageBytes (seqs-of m) (secs-of m)))) (p .same) (p .few))
 
 returns-2 : tie.Need-returns-2
-returns-2 c = let st = c .before .before .before in many (st .args .seqs .now) (st .args .secs .now) _ (c .before .if1 .left) (c .if2 .taken)
-
-seqs-bits-requires : tie.Need-seqs-bits-requires
-seqs-bits-requires c κs = search needs
-
-add-t3 : tie.Need-add-t3
-add-t3 c =
-    let s = c .before .before .before .before .args .seqs .now in
-    omega (arith, c .seqs-bits .ensures, array-most (map signed s), length-map s signed)
-
-add-t9 : tie.Need-add-t9
-add-t9 c = search needs
-
-secs-bits-requires : tie.Need-secs-bits-requires
-secs-bits-requires c κs = search needs
-
-add-t11 : tie.Need-add-t11
-add-t11 c = omega (arith, c .secs-bits .ensures, array-most (c .before .before .before .before .before .args .secs .now))
-
-add-t13 : tie.Need-add-t13
-add-t13 c =
-    let b = c .before in
-    let st = b .before .before .before .before in
-    let s = st .args .seqs .now in
-    omega (arith, b .seqs-bits .ensures, array-most (map signed s), length-map s signed, c .secs-bits .ensures, array-most (st .args .secs .now))
-
-returns-3 : tie.Need-returns-3
-returns-3 c =
-    let b = c .before in
-    let e = b .before in
-    let st = e .before .before .before in
-    let seqs = st .args .seqs .now in
-    let secs = st .args .secs .now in
-    ap gave (ap₂ (λ (x y : ℕ). 5 + (x + 7) / 8 + (y + 7) / 8) (b .seqs-bits .ensures) (c .secs-bits .ensures) ∙ sym (image-length seqs secs))
-    ∙ sym (passed seqs secs (gave (length (imageBytes seqs secs))) (e .before .if1 .left) (e .if2 .left))
+returns-2 c =
+    let rf = c .before in
+    let m = rf .before .before in
+    len-refused (seqs-of m) (secs-of m) _ _ (gave (length (imageBytes (seqs-of m) (secs-of m)))) (ap toldLen (sym (rf .refusal .given .1)) ∙ m .most-bytes .ensures)
 
 pub encoded-len-spec : {M : Type 1} → statement M
 encoded-len-spec =
     tie.close
     (tie.spec
+    most-bytes-requires
+    enum-told
+    image-bytes-requires
+    enum-known-refusal
     returns
-    returns-2
-    seqs-bits-requires
-    add-t3
-    add-t9
-    secs-bits-requires
-    add-t11
-    add-t13
-    returns-3)
+    returns-2)

@@ -6,14 +6,14 @@ use Rattle.encoder.proofs.Codes.{wide-both}
 use Rattle.encoder.proofs.strict.first_wide.Statement.{statement}
 use Rattle.encoder.proofs.strict.first_wide.Tie as tie
 
-first-wide-seq-requires : tie.Need-first-wide-seq-requires
-first-wide-seq-requires c κs = search needs
+wide-seq-requires : tie.Need-wide-seq-requires
+wide-seq-requires c κs = search needs
 
 enum-told : tie.Need-enum-told
 enum-told c = search needs
 
-first-wide-sec-requires : tie.Need-first-wide-sec-requires
-first-wide-sec-requires c κs = search needs
+wide-sec-requires : tie.Need-wide-sec-requires
+wide-sec-requires c κs = search needs
 
 enum-known-a : tie.Need-enum-known-a
 enum-known-a c = search needs
@@ -23,22 +23,22 @@ returns c =
     let et = c .before in
     let fs = et .before .before in
     let st = fs .before .before in
-    wide-both (st .args .seqs .now) (st .args .secs .now) none _ (ap foundWide (sym (et .enum-told .given .1)) ∙ fs .first-wide-seq .ensures) (c .first-wide-sec .ensures)
+    wide-both (st .args .seqs .now) (st .args .secs .now) none _ (ap foundWide (sym (et .enum-told .given .1)) ∙ fs .wide-seq .ensures) (c .wide-sec .ensures)
 
 returns-2 : tie.Need-returns-2
 returns-2 c =
     let aa = c .before in
     let fs = aa .before .before in
     let st = fs .before .before in
-    wide-both (st .args .seqs .now) (st .args .secs .now) _ (wideIn 1 (st .args .secs .now)) (ap foundWide (sym (aa .a .given .1)) ∙ fs .first-wide-seq .ensures) refl
+    wide-both (st .args .seqs .now) (st .args .secs .now) _ (wideIn 1 (st .args .secs .now)) (ap foundWide (sym (aa .a .given .1)) ∙ fs .wide-seq .ensures) refl
 
 pub first-wide-spec : {M : Type 1} → statement M
 first-wide-spec =
     tie.close
     (tie.spec
-    first-wide-seq-requires
+    wide-seq-requires
     enum-told
-    first-wide-sec-requires
+    wide-sec-requires
     enum-known-a
     returns
     returns-2)

@@ -1,0 +1,164 @@
+//! Work of both sides on the same inputs, between marks that a counter of instructions sees. Every answer is compared with the
+//! Rust's before it is counted. A line `mark N WORK, DATA, PAIRS, SIDE` names each mark.
+use super::super::*;
+use super::chance::Chance;
+use super::lent::{self, Lent};
+use super::offers::table_of;
+use super::ours::{self, Table};
+use super::theirs;
+use std::hint::black_box;
+
+extern "C" {
+    fn syscall(number: i64, ...) -> i64;
+}
+
+/// A system call that no kernel knows: it does nothing, and the counter prints what was executed since the last one.
+fn mark(n: u64) {
+    unsafe {
+        syscall(0x5eed, n);
+    }
+}
+
+struct Bench {
+    marks: u64,
+}
+
+impl Bench {
+    /// Both sides twice: the first time to warm up and to be compared, the second time between marks.
+    fn work<A: PartialEq + std::fmt::Debug>(&mut self, name: &str, mut theirs: impl FnMut() -> A, mut ours: impl FnMut() -> A) {
+        assert_eq!(theirs(), ours(), "{name}");
+        for side in ["rust", "ours"] {
+            self.marks += 1;
+            mark(0);
+            if side == "rust" {
+                black_box(theirs());
+            } else {
+                black_box(ours());
+            }
+            mark(self.marks);
+            println!("mark {} {name}, {side}", self.marks);
+        }
+    }
+}
+
+/// Regular data, of which every code is one bit, and mixed data.
+fn sample(data: &str, n: usize) -> SequenceTracker {
+    let chance = &mut Chance::new(88172645463325252);
+    let (mut seq, mut sec) = (1000u64, 1_700_000_000i64);
+    let (mut seqs, mut secs) = (vec![], vec![]);
+    for _ in 0..n {
+        seqs.push(seq);
+        secs.push(sec);
+        let regular = data == "regular";
+        seq += if regular { 64 } else { chance.below(5000) };
+        sec += if regular { 60 } else { 60 + chance.below(40) as i64 };
+    }
+    theirs::table(8192, 60, &seqs, &secs)
+}
+
+#[inline(never)]
+fn rust_encode(t: &SequenceTracker) -> Vec<u8> {
+    t.to_bytes()
+}
+
+#[inline(never)]
+fn rust_decode(bytes: &[u8]) -> Result<SequenceTracker, String> {
+    SequenceTracker::from_bytes(bytes)
+}
+
+#[inline(never)]
+fn rust_find(t: &SequenceTracker, seqs: &[u64]) -> i64 {
+    seqs.iter().map(|&q| t.find_ts(q, FindOption::RoundDown).map_or(0, |d| d.timestamp())).fold(0, i64::wrapping_add)
+}
+
+fn images(bench: &mut Bench, data: &str, n: usize) {
+    let chance = &mut Chance::new(3);
+    let t = sample(data, n);
+    let image = t.to_bytes();
+    let (seqs, secs) = (t.sequence_numbers.clone(), t.timestamps.clone());
+    let ours = table_of(chance, &t);
+    let name = |work: &str| format!("{work}, {data}, {n}");
+    for strict in [false, true] {
+        let mut out = lent::bytes(chance, image.len());
+        bench.work(
+            &name(if strict { "encode_strict" } else { "encode" }),
+            || rust_encode(black_box(&t)).len(),
+            || ours::encode(strict, black_box(&seqs), black_box(&secs), &mut out).a as usize,
+        );
+        assert_eq!(out.places(), image);
+        bench.work(
+            &name(if strict { "save_strict" } else { "save" }),
+            || rust_encode(black_box(&t)).len(),
+            || black_box(&ours).save(strict, &mut out).a as usize,
+        );
+        assert_eq!(out.places(), image);
+    }
+    let (mut to_seqs, mut to_secs) = (lent::seqs(chance, &[], 8192), lent::secs(chance, &[], 8192));
+    let mut read = |name: String, mut ours: Box<dyn FnMut(&mut Lent<u64>, &mut Lent<i64>) -> usize>| {
+        bench.work(&name, || rust_decode(black_box(&image)).map_or(0, |t| t.timestamps.len()), || ours(&mut to_seqs, &mut to_secs));
+        assert_eq!((&to_seqs.places()[..n], &to_secs.places()[..n]), (&seqs[..], &secs[..]));
+    };
+    let bytes = image.clone();
+    read(name("decode"), Box::new(move |a, b| ours::decode(black_box(&bytes), a, b).a as usize));
+    let bytes = image.clone();
+    read(name("restore"), Box::new(move |a, b| Table::restore(black_box(&bytes), a, b).state.count));
+}
+
+fn lookups(bench: &mut Bench, n: usize) {
+    let t = sample("mixed", n);
+    let ours = table_of(&mut Chance::new(4), &t);
+    let asked: Vec<u64> = (0..1000).map(|i| 1000 + i * 5 * n as u64 / 2).collect();
+    bench.work(
+        &format!("1,000 lookups, mixed, {n}"),
+        || rust_find(black_box(&t), black_box(&asked)),
+        || black_box(&asked).iter().map(|&q| ours.find_ts(q, 1).b as i64).fold(0, i64::wrapping_add),
+    );
+}
+
+/// 100,000 offers of a second each. The Rust makes a `DateTime` of each second, as in its own `extend_from`, or has them ready.
+fn offers(bench: &mut Bench, interval: u64, ready: bool) {
+    let (seqs, secs): (Vec<u64>, Vec<i64>) = ((0..100_000).collect(), (0..100_000).collect());
+    let records: Vec<TrackedSeq> = secs.iter().map(|&s| TrackedSeq { seq: s as u64, ts: theirs::instant(s) }).collect();
+    let skipped = if interval == 0 { "all recorded" } else { "59 of 60 skipped" };
+    let from = if ready { "DateTimes ready" } else { "DateTimes made" };
+    let mut fresh: Vec<Table> = (0..2).map(|_| table_of(&mut Chance::new(5), &SequenceTracker::with_config(8192, interval))).collect();
+    let (mut left, mut left_ours) = (None, None);
+    bench.work(
+        &format!("100,000 offers, {skipped}, {from}"),
+        || {
+            let mut t = SequenceTracker::with_config(8192, interval);
+            if ready {
+                black_box(&records).iter().for_each(|&r| t.insert(r));
+            } else {
+                black_box(&seqs).iter().zip(&secs).for_each(|(&seq, &sec)| t.insert(TrackedSeq { seq, ts: theirs::instant(sec) }));
+            }
+            left.insert(t).sequence_numbers.len()
+        },
+        || {
+            let mut t = fresh.pop().expect("a table for each time");
+            let n = t.offer_pairs(black_box(&seqs), black_box(&secs)).state.count;
+            left_ours = Some(t);
+            n
+        },
+    );
+    let (t, ours) = (left.expect("done"), left_ours.expect("done"));
+    let n = t.timestamps.len();
+    assert_eq!((&t.sequence_numbers[..], &t.timestamps[..]), (&ours.seqs.places()[..n], &ours.secs.places()[..n]));
+}
+
+pub fn main() {
+    let mut bench = Bench { marks: 0 };
+    for data in ["regular", "mixed"] {
+        for n in [512, 2048, 8192] {
+            images(&mut bench, data, n);
+        }
+    }
+    for n in [1, 512, 2048, 8192] {
+        lookups(&mut bench, n);
+    }
+    for interval in [0, 60] {
+        for ready in [false, true] {
+            offers(&mut bench, interval, ready);
+        }
+    }
+}

@@ -1,0 +1,141 @@
+//! Lists of offers and `extend_from`: the numbers recorded and skipped, the refused position, the table afterwards.
+use super::super::*;
+use super::chance::Chance;
+use super::lent;
+use super::offers::{empty, second, sequence, shown, table_of, OK};
+use super::ours::{Answer, Table, TableAnswer};
+use super::tally::Tally;
+use super::theirs::{self, Offer};
+
+/// What the lent arrays should hold: each recorded pair changes the places up to the new count, and no other.
+struct Held {
+    seqs: Vec<u64>,
+    secs: Vec<i64>,
+}
+
+impl Held {
+    fn by(ours: &Table) -> Held {
+        Held { seqs: ours.seqs.all(), secs: ours.secs.all() }
+    }
+
+    fn recorded(&mut self, t: &SequenceTracker, stood: usize) {
+        let from = if t.sequence_numbers.len() == stood + 1 { stood } else { 0 };
+        lent::set(&mut self.seqs, from, &t.sequence_numbers[from..]);
+        lent::set(&mut self.secs, from, &t.timestamps[from..]);
+    }
+}
+
+/// The records offered in order to the Rust's table, up to the first refusal.
+fn offered(t: &mut SequenceTracker, held: &mut Held, seqs: &[u64], secs: &[i64]) -> TableAnswer {
+    let (mut recorded, mut skipped, mut answer) = (0, 0, OK);
+    for (i, (&seq, &sec)) in seqs.iter().zip(secs).enumerate() {
+        let stood = t.sequence_numbers.len();
+        match theirs::offer(t, seq, sec) {
+            Offer::Recorded => {
+                held.recorded(t, stood);
+                recorded += 1
+            }
+            Offer::Skipped => skipped += 1,
+            Offer::Refused => {
+                answer = Answer { number: 17, a: i as u64, b: 0, c: 0 };
+                break;
+            }
+        }
+    }
+    TableAnswer { answer, recorded, skipped, state: theirs::state(t) }
+}
+
+/// Compares an answer and the arrays. Our table goes on from there.
+fn compare(tally: &mut Tally, kinds: [&'static str; 2], input: impl Fn() -> String, theirs: TableAnswer, held: Held, answer: TableAnswer, ours: &mut Table) {
+    let kind = kinds[(theirs.answer.number != 0) as usize];
+    tally.same(kind, &input, &theirs, &answer);
+    tally.holds(kind, &input, &(held.seqs, held.secs), &(ours.seqs.all(), ours.secs.all()));
+    ours.state = answer.state;
+}
+
+fn list(tally: &mut Tally, t: &mut SequenceTracker, ours: &mut Table, seqs: &[u64], secs: &[i64]) {
+    let (stood, mut held) = (t.clone(), Held::by(ours));
+    let theirs = offered(t, &mut held, seqs, secs);
+    let answer = ours.offer_pairs(seqs, secs);
+    let input = || format!("sequences {seqs:?} and seconds {secs:?} offered to {}", shown(&stood));
+    compare(tally, ["lists of offers", "lists of offers stopped, 17"], input, theirs, held, answer, ours);
+}
+
+fn extend(tally: &mut Tally, chance: &mut Chance, t: &mut SequenceTracker, ours: &mut Table) {
+    let n = chance.index(12);
+    let (seqs, secs) = (rising_from(chance, t, n), chance.secs(n));
+    let capacity = n as u32 + chance.below(3) as u32;
+    let other = theirs::table(capacity, chance.below(100), &seqs, &secs);
+    let lent = table_of(chance, &other);
+    let lent_before = (lent.seqs.all(), lent.secs.all());
+    let (stood, mut held) = (t.clone(), Held::by(ours));
+    let theirs = offered(t, &mut held, &seqs, &secs);
+    let mut extended = stood.clone();
+    let ended = theirs::extend_from(&mut extended, &other);
+    let input = || format!("{} extended from {}", shown(&stood), shown(&other));
+    tally.holds("the Rust's extend_from and its inserts", input, &(ended, shown(&extended)), &(theirs.answer.number == 0, shown(t)));
+    let answer = ours.extend_from(&lent);
+    tally.holds("the other table's arrays", input, &lent_before, &(lent.seqs.all(), lent.secs.all()));
+    compare(tally, ["extensions from another table", "extensions from another table stopped, 17"], input, theirs, held, answer, ours);
+}
+
+/// Rising sequences that mostly start at the table's last kept one.
+fn rising_from(chance: &mut Chance, t: &SequenceTracker, n: usize) -> Vec<u64> {
+    let from = t.sequence_numbers.last().copied().unwrap_or(0);
+    let mut at = if chance.below(4) == 0 { from.saturating_sub(chance.below(1000)) } else { from };
+    let mut next = || {
+        at = at.saturating_add(chance.below(300));
+        at
+    };
+    (0..n).map(|_| next()).collect()
+}
+
+/// A log about a table's last pair, and now and then one entry more on one side.
+fn log(chance: &mut Chance, t: &SequenceTracker, n: usize) -> (Vec<u64>, Vec<i64>) {
+    let (mut last_seq, mut last_sec) = (t.sequence_numbers.last().copied(), t.last_recorded_ts);
+    let (mut seqs, mut secs) = (vec![], vec![]);
+    for _ in 0..n {
+        let (seq, sec) = (sequence(chance, last_seq), second(chance, last_sec, t.interval_secs.min(1000)));
+        seqs.push(seq);
+        secs.push(sec);
+        last_seq = last_seq.max(Some(seq));
+        last_sec = last_sec.max(Some(sec));
+    }
+    match chance.below(4) {
+        0 => seqs.push(7),
+        1 => secs.push(7),
+        _ => (),
+    }
+    (seqs, secs)
+}
+
+/// A log long enough to halve a full-sized table more than once, in parts.
+fn long(tally: &mut Tally, chance: &mut Chance) {
+    let mut t = SequenceTracker::with_config(chance.of(&[8191, 8192, 1000, 1001]), chance.of(&[0, 60]));
+    let mut ours = table_of(chance, &t);
+    for _ in 0..8 {
+        let n = 1 + chance.index(6000);
+        let step = t.interval_secs as i64 + 1;
+        let from = t.last_recorded_ts.unwrap_or(0);
+        let seq = t.sequence_numbers.last().copied().unwrap_or(0);
+        let seqs: Vec<u64> = (0..n as u64).map(|i| seq + i * 3).collect();
+        let secs: Vec<i64> = (1..=n as i64).map(|i| from + i * step - i % 2).collect();
+        list(tally, &mut t, &mut ours, &seqs, &secs);
+    }
+}
+
+pub fn random(tally: &mut Tally, chance: &mut Chance) {
+    for _ in 0..600 {
+        let mut t = empty(chance);
+        let mut ours = table_of(chance, &t);
+        for _ in 0..1 + chance.below(6) {
+            let n = chance.index(20);
+            let (seqs, secs) = log(chance, &t, n);
+            list(tally, &mut t, &mut ours, &seqs, &secs);
+            if chance.below(2) == 0 {
+                extend(tally, chance, &mut t, &mut ours);
+            }
+        }
+    }
+    long(tally, chance);
+}

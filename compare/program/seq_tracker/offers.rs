@@ -1,0 +1,124 @@
+//! Offers: recorded, skipped and refused, the pairs and the last recorded second after each, and halving.
+use super::super::*;
+use super::chance::{Chance, FIRST_SECOND, LAST_SECOND};
+use super::lent::{self, holding};
+use super::ours::{self, Answer, Table, TableAnswer, NO_STATE};
+use super::tally::Tally;
+use super::theirs::{self, Offer};
+
+pub const OK: Answer = Answer { number: 0, a: 0, b: 0, c: 0 };
+
+/// Our table of the Rust's pairs, in arrays with some places to spare.
+pub fn table_of(chance: &mut Chance, t: &SequenceTracker) -> Table {
+    let room = (t.capacity as usize).max(1) + chance.index(3);
+    let spare = room - t.sequence_numbers.len();
+    let (seqs, secs) = (lent::seqs(chance, &t.sequence_numbers, spare), lent::secs(chance, &t.timestamps, spare));
+    Table { state: theirs::state(t), seqs, secs }
+}
+
+/// What the Rust's table holds, in full.
+pub fn shown(t: &SequenceTracker) -> String {
+    format!("{t:?}")
+}
+
+/// One offer on both sides. The tables go on from what it leaves.
+pub fn offer(tally: &mut Tally, t: &mut SequenceTracker, ours: &mut Table, seq: u64, sec: i64) -> Offer {
+    let stood = t.clone();
+    let input = || format!("({seq}, {sec}) offered to {}", shown(&stood));
+    let before = (ours.seqs.all(), ours.secs.all());
+    let outcome = theirs::offer(t, seq, sec);
+    let halved = outcome == Offer::Recorded && stood.sequence_numbers.len() + 1 > stood.capacity as usize;
+    let (kind, answer, recorded, skipped, state) = match outcome {
+        Offer::Recorded if halved => ("offers recorded, and the table halved", OK, 1, 0, theirs::state(t)),
+        Offer::Recorded => ("offers recorded", OK, 1, 0, theirs::state(t)),
+        Offer::Skipped => ("offers skipped", OK, 0, 1, theirs::state(t)),
+        Offer::Refused => ("offers refused, 17", Answer { number: 17, ..OK }, 0, 0, NO_STATE),
+    };
+    let answered = ours.offer(seq, sec);
+    tally.same(kind, input, &TableAnswer { answer, recorded, skipped, state }, &answered);
+    let after = (ours.seqs.all(), ours.secs.all());
+    match outcome {
+        Offer::Recorded => {
+            let now = (holding(&before.0, &t.sequence_numbers), holding(&before.1, &t.timestamps));
+            tally.holds(kind, input, &now, &after);
+        }
+        Offer::Skipped => tally.holds(kind, input, &before, &after),
+        Offer::Refused => tally.kept(kind, input, &before, &after),
+    }
+    if outcome != Offer::Refused {
+        ours.state = answered.state;
+    }
+    outcome
+}
+
+/// Every list of up to `left` offers of small numbers.
+fn every(tally: &mut Tally, chance: &mut Chance, t: &SequenceTracker, left: u32) {
+    if left == 0 {
+        return;
+    }
+    for seq in 0..3 {
+        for sec in 0..4 {
+            let mut next = t.clone();
+            let mut ours = table_of(chance, t);
+            offer(tally, &mut next, &mut ours, seq, sec);
+            every(tally, chance, &next, left - 1);
+        }
+    }
+}
+
+pub fn exhaustive(tally: &mut Tally) {
+    let chance = &mut Chance::new(2);
+    for capacity in 0..5 {
+        for interval in [0, 1, 2] {
+            every(tally, chance, &SequenceTracker::with_config(capacity, interval), 4);
+        }
+    }
+}
+
+/// A second at a limit: the interval after the last recorded one, that one, or the domain's ends.
+pub fn second(chance: &mut Chance, last: Option<i64>, interval: u64) -> i64 {
+    let from = last.unwrap_or_else(|| chance.of(&[0, 1_700_000_000, FIRST_SECOND]));
+    let near = chance.below(3) as i64 - 1;
+    let sec = match chance.below(8) {
+        0 => from,
+        1 => from.saturating_sub(chance.below(100) as i64),
+        2 | 3 => from.saturating_add(chance.below(200) as i64),
+        7 if chance.below(20) == 0 => chance.of(&[FIRST_SECOND, LAST_SECOND]),
+        _ => from.saturating_add((interval as i64).saturating_add(near)),
+    };
+    sec.clamp(FIRST_SECOND, LAST_SECOND)
+}
+
+/// A sequence about the last kept one, seldom below it.
+pub fn sequence(chance: &mut Chance, last: Option<u64>) -> u64 {
+    let from = last.unwrap_or_else(|| chance.of(&[0, 5, 1 << 63, u64::MAX - 50]));
+    match chance.below(12) {
+        0 => from.saturating_sub(1 + chance.below(3)),
+        1 | 2 => from,
+        3 if chance.below(30) == 0 => u64::MAX,
+        _ => from.saturating_add(chance.below(100)),
+    }
+}
+
+/// An empty table with settings at their limits.
+pub fn empty(chance: &mut Chance) -> SequenceTracker {
+    let capacity = chance.of(&[0, 1, 2, 3, 4, 5, 6, 7, 8, 15, 16]);
+    let interval = chance.of(&[0, 0, 1, 10, 60, 1 << 40, i64::MAX as u64]);
+    SequenceTracker::with_config(capacity, interval)
+}
+
+pub fn random(tally: &mut Tally, chance: &mut Chance) {
+    for _ in 0..250 {
+        let mut t = empty(chance);
+        let mut ours = table_of(chance, &t);
+        let made = ours::with_config(t.capacity, t.interval_secs);
+        tally.same("settings", || shown(&t), &TableAnswer { answer: OK, recorded: 0, skipped: 0, state: theirs::state(&t) }, &made);
+        for _ in 0..chance.below(60) {
+            let sec = second(chance, t.last_recorded_ts, t.interval_secs);
+            let seq = sequence(chance, t.sequence_numbers.last().copied());
+            offer(tally, &mut t, &mut ours, seq, sec);
+        }
+    }
+    let new = TableAnswer { answer: OK, recorded: 0, skipped: 0, state: theirs::state(&SequenceTracker::new()) };
+    tally.same("settings", || "new".into(), &new, &ours::new());
+}

@@ -1,0 +1,146 @@
+//! Our side: the static library's functions. A slice crosses as a pointer and a length.
+use super::lent::Lent;
+
+#[repr(C)]
+#[derive(Clone, Copy, Debug, PartialEq, Eq)]
+pub struct Answer {
+    pub number: u32,
+    pub a: u64,
+    pub b: u64,
+    pub c: u64,
+}
+
+#[repr(C)]
+#[derive(Clone, Copy, Debug, PartialEq, Eq)]
+pub struct State {
+    pub count: usize,
+    pub capacity: u32,
+    pub has_last: u32,
+    pub interval_secs: u64,
+    pub last: i64,
+}
+
+#[repr(C)]
+#[derive(Clone, Copy, Debug, PartialEq, Eq)]
+pub struct TableAnswer {
+    pub answer: Answer,
+    pub recorded: u64,
+    pub skipped: u64,
+    pub state: State,
+}
+
+/// What is returned where there is no state: every call refuses it.
+pub const NO_STATE: State = State { count: 0, capacity: u32::MAX, has_last: 0, interval_secs: 0, last: 0 };
+
+mod linked {
+    use super::{Answer, State, TableAnswer};
+    #[rustfmt::skip]
+    extern "C" {
+        pub fn skut_sign_extend(val: u32, bits: u8) -> Answer;
+        pub fn skut_read_bits(s: *const u8, n: usize, byte: usize, bit: u8, width: u8) -> Answer;
+        pub fn skut_write_bits(buf: *mut u8, n: usize, byte: usize, bit: u8, value: u64, width: u8) -> Answer;
+        pub fn skut_encoded_len(seqs: *const u64, n: usize, secs: *const i64, m: usize) -> Answer;
+        pub fn skut_encode(seqs: *const u64, n: usize, secs: *const i64, m: usize, out: *mut u8, k: usize) -> Answer;
+        pub fn skut_encode_strict(seqs: *const u64, n: usize, secs: *const i64, m: usize, out: *mut u8, k: usize) -> Answer;
+        pub fn skut_decode(bytes: *const u8, k: usize, seqs: *mut u64, n: usize, secs: *mut i64, m: usize) -> Answer;
+        pub fn skut_image_len(bytes: *const u8, k: usize) -> Answer;
+        pub fn skut_new() -> TableAnswer;
+        pub fn skut_with_config(capacity: u32, interval_secs: u64) -> TableAnswer;
+        pub fn skut_offer(state: State, seqs: *mut u64, n: usize, secs: *mut i64, m: usize, seq: u64, sec: i64) -> TableAnswer;
+        pub fn skut_offer_pairs(state: State, seqs: *mut u64, n: usize, secs: *mut i64, m: usize, from_seqs: *const u64, i: usize, from_secs: *const i64, j: usize) -> TableAnswer;
+        pub fn skut_extend_from(state: State, seqs: *mut u64, n: usize, secs: *mut i64, m: usize, other: State, other_seqs: *const u64, i: usize, other_secs: *const i64, j: usize) -> TableAnswer;
+        pub fn skut_find_ts(state: State, seqs: *const u64, n: usize, secs: *const i64, m: usize, seq: u64, round: u32) -> Answer;
+        pub fn skut_find_seq(state: State, seqs: *const u64, n: usize, secs: *const i64, m: usize, sec: i64, round: u32) -> Answer;
+        pub fn skut_save(state: State, seqs: *const u64, n: usize, secs: *const i64, m: usize, out: *mut u8, k: usize) -> Answer;
+        pub fn skut_save_strict(state: State, seqs: *const u64, n: usize, secs: *const i64, m: usize, out: *mut u8, k: usize) -> Answer;
+        pub fn skut_restore(bytes: *const u8, k: usize, seqs: *mut u64, n: usize, secs: *mut i64, m: usize) -> TableAnswer;
+    }
+}
+
+pub fn sign_extend(val: u32, bits: u8) -> Answer {
+    unsafe { linked::skut_sign_extend(val, bits) }
+}
+
+pub fn read_bits(s: &[u8], byte: usize, bit: u8, width: u8) -> Answer {
+    unsafe { linked::skut_read_bits(s.as_ptr(), s.len(), byte, bit, width) }
+}
+
+pub fn write_bits(buf: &mut Lent<u8>, byte: usize, bit: u8, value: u64, width: u8) -> Answer {
+    let (p, n) = buf.of_mut();
+    unsafe { linked::skut_write_bits(p, n, byte, bit, value, width) }
+}
+
+pub fn encoded_len(seqs: &[u64], secs: &[i64]) -> Answer {
+    unsafe { linked::skut_encoded_len(seqs.as_ptr(), seqs.len(), secs.as_ptr(), secs.len()) }
+}
+
+pub fn encode(strict: bool, seqs: &[u64], secs: &[i64], out: &mut Lent<u8>) -> Answer {
+    let ((p, n), (q, m), (o, k)) = ((seqs.as_ptr(), seqs.len()), (secs.as_ptr(), secs.len()), out.of_mut());
+    unsafe {
+        if strict { linked::skut_encode_strict(p, n, q, m, o, k) } else { linked::skut_encode(p, n, q, m, o, k) }
+    }
+}
+
+pub fn decode(bytes: &[u8], seqs: &mut Lent<u64>, secs: &mut Lent<i64>) -> Answer {
+    let ((p, n), (q, m)) = (seqs.of_mut(), secs.of_mut());
+    unsafe { linked::skut_decode(bytes.as_ptr(), bytes.len(), p, n, q, m) }
+}
+
+pub fn image_len(bytes: &[u8]) -> Answer {
+    unsafe { linked::skut_image_len(bytes.as_ptr(), bytes.len()) }
+}
+
+pub fn new() -> TableAnswer {
+    unsafe { linked::skut_new() }
+}
+
+pub fn with_config(capacity: u32, interval_secs: u64) -> TableAnswer {
+    unsafe { linked::skut_with_config(capacity, interval_secs) }
+}
+
+/// A table of ours: its state and the arrays that are lent with it.
+pub struct Table {
+    pub state: State,
+    pub seqs: Lent<u64>,
+    pub secs: Lent<i64>,
+}
+
+impl Table {
+    pub fn offer(&mut self, seq: u64, sec: i64) -> TableAnswer {
+        let ((p, n), (q, m)) = (self.seqs.of_mut(), self.secs.of_mut());
+        unsafe { linked::skut_offer(self.state, p, n, q, m, seq, sec) }
+    }
+
+    pub fn offer_pairs(&mut self, seqs: &[u64], secs: &[i64]) -> TableAnswer {
+        let ((p, n), (q, m)) = (self.seqs.of_mut(), self.secs.of_mut());
+        unsafe { linked::skut_offer_pairs(self.state, p, n, q, m, seqs.as_ptr(), seqs.len(), secs.as_ptr(), secs.len()) }
+    }
+
+    pub fn extend_from(&mut self, other: &Table) -> TableAnswer {
+        let ((p, n), (q, m)) = (self.seqs.of_mut(), self.secs.of_mut());
+        let ((r, i), (s, j)) = (other.seqs.of(), other.secs.of());
+        unsafe { linked::skut_extend_from(self.state, p, n, q, m, other.state, r, i, s, j) }
+    }
+
+    pub fn find_ts(&self, seq: u64, round: u32) -> Answer {
+        let ((p, n), (q, m)) = (self.seqs.of(), self.secs.of());
+        unsafe { linked::skut_find_ts(self.state, p, n, q, m, seq, round) }
+    }
+
+    pub fn find_seq(&self, sec: i64, round: u32) -> Answer {
+        let ((p, n), (q, m)) = (self.seqs.of(), self.secs.of());
+        unsafe { linked::skut_find_seq(self.state, p, n, q, m, sec, round) }
+    }
+
+    pub fn save(&self, strict: bool, out: &mut Lent<u8>) -> Answer {
+        let ((p, n), (q, m), (o, k)) = (self.seqs.of(), self.secs.of(), out.of_mut());
+        unsafe {
+            if strict { linked::skut_save_strict(self.state, p, n, q, m, o, k) } else { linked::skut_save(self.state, p, n, q, m, o, k) }
+        }
+    }
+
+    pub fn restore(bytes: &[u8], seqs: &mut Lent<u64>, secs: &mut Lent<i64>) -> TableAnswer {
+        let ((p, n), (q, m)) = (seqs.of_mut(), secs.of_mut());
+        unsafe { linked::skut_restore(bytes.as_ptr(), bytes.len(), p, n, q, m) }
+    }
+}

@@ -1,0 +1,218 @@
+//! Readers: the values that are read back, the image's length, and refusals 1 to 9, from good and damaged bytes.
+use super::super::*;
+use super::chance::{Chance, FIRST_SECOND, LAST_SECOND};
+use super::lent::{self, holding, Lent};
+use super::ours::{self, Answer, State, Table, TableAnswer, NO_STATE};
+use super::tally::Tally;
+use super::theirs;
+use crate::utils::BitReader;
+
+const REFUSED: [&str; 10] = [
+    "", "images refused, 1", "images refused, 2", "images refused, 3", "images refused, 4", "images refused, 5",
+    "images refused, 6", "images refused, 7", "images refused, 8", "images refused, 9",
+];
+
+/// What of a refusal the Rust tells too: all of 1, 2 and 3, the width of 8, the array of 9.
+fn comparable(ours: Answer) -> (u32, u64) {
+    match ours.number {
+        2 | 9 => (ours.number, ours.a),
+        8 => (8, ours.c),
+        n => (n, 0),
+    }
+}
+
+/// The array whose count is above the room, where that is met before another refusal.
+fn above_room(bytes: &[u8], room: usize) -> Option<u64> {
+    let count = |at: usize| BitReader::new(bytes.get(at..)?).read32(32).map(|n| n as usize);
+    if bytes.first() != Some(&1) || bytes.len() < 5 {
+        return None;
+    }
+    if count(5)? > room {
+        return Some(0);
+    }
+    let (len, seqs) = decode_sequence_numbers_with_length(&bytes[5..]).ok()?;
+    let header = u32::from_le_bytes(bytes[1..5].try_into().ok()?) as usize;
+    if seqs.len() == header && count(5 + len)? > room { Some(1) } else { None }
+}
+
+fn refused(number: u32, a: u64) -> Answer {
+    Answer { number, a, b: 0, c: 0 }
+}
+
+/// The list reader into two arrays, of which the shorter has `room` places.
+fn decode(tally: &mut Tally, chance: &mut Chance, bytes: &[u8], room: usize) {
+    let longer = chance.below(3) as usize;
+    let (more, other) = if chance.below(2) == 0 { (longer, 0) } else { (0, longer) };
+    let (mut seqs, mut secs) = (lent::seqs(chance, &[], room + more), lent::secs(chance, &[], room + other));
+    let before = (seqs.all(), secs.all());
+    let input = || format!("bytes {bytes:02x?}, room {room}");
+    let ours = ours::decode(bytes, &mut seqs, &mut secs);
+    let after = (seqs.all(), secs.all());
+    if let Some(array) = above_room(bytes, room) {
+        tally.ruled("images refused, 10", input, &refused(10, array), &ours);
+        tally.kept("images refused, 10", input, &before, &after);
+        return;
+    }
+    match SequenceTracker::from_bytes(bytes) {
+        Ok(t) => {
+            tally.same("images read", input, &Answer { number: 0, a: t.timestamps.len() as u64, b: 0, c: 0 }, &ours);
+            let values = (holding(&before.0, &t.sequence_numbers), holding(&before.1, &t.timestamps));
+            tally.holds("images read", input, &values, &after);
+        }
+        Err(words) => {
+            let theirs = theirs::refusal(&words);
+            tally.same(REFUSED[theirs.0 as usize], input, &theirs, &comparable(ours));
+            tally.kept(REFUSED[theirs.0 as usize], input, &before, &after);
+        }
+    }
+}
+
+/// The image's length: no array is lent, so every refusal is one of the Rust's.
+fn image_len(tally: &mut Tally, bytes: &[u8]) {
+    let input = || format!("bytes {bytes:02x?}");
+    let ours = ours::image_len(bytes);
+    match SequenceTracker::from_bytes(bytes) {
+        Ok(_) => tally.same("lengths of images read", input, &refused(0, theirs::image_len(bytes) as u64), &ours),
+        Err(words) => tally.same("lengths of images refused, 1 to 9", input, &theirs::refusal(&words), &comparable(ours)),
+    }
+}
+
+/// Arrays that are lent to one restore after the other, and what they should hold.
+pub struct Lending {
+    seqs: Lent<u64>,
+    secs: Lent<i64>,
+    held: (Vec<u64>, Vec<i64>),
+}
+
+impl Lending {
+    pub fn new(chance: &mut Chance) -> Lending {
+        let (seqs, secs) = (lent::seqs(chance, &[], 8192), lent::secs(chance, &[], 8192));
+        let held = (seqs.all(), secs.all());
+        Lending { seqs, secs, held }
+    }
+
+    fn kept(&mut self, tally: &mut Tally, kind: &'static str, bytes: &[u8]) {
+        tally.kept(kind, || format!("bytes {bytes:02x?}"), &self.held, &(self.seqs.all(), self.secs.all()));
+    }
+
+    pub fn restore(&mut self, tally: &mut Tally, bytes: &[u8]) {
+        let input = || format!("bytes {bytes:02x?}");
+        let ours = Table::restore(bytes, &mut self.seqs, &mut self.secs);
+        let no_table = |number, a| TableAnswer { answer: refused(number, a), recorded: 0, skipped: 0, state: NO_STATE };
+        if let Some(array) = above_room(bytes, 8192) {
+            tally.ruled("tables not restored, 10", input, &no_table(10, array), &ours);
+            return self.kept(tally, "tables not restored, 10", bytes);
+        }
+        match SequenceTracker::from_bytes(bytes) {
+            Err(words) => {
+                tally.same("tables not restored, 1 to 9", input, &theirs::refusal(&words), &comparable(ours.answer));
+                self.kept(tally, "tables not restored, 1 to 9", bytes);
+            }
+            Ok(t) => match unfit(&t.sequence_numbers, &t.timestamps) {
+                Some((number, index)) => {
+                    tally.ruled("tables not restored, 11 to 13", input, &no_table(number, index), &ours);
+                    self.kept(tally, "tables not restored, 11 to 13", bytes);
+                }
+                None => {
+                    let state = State { capacity: 8192, interval_secs: 60, ..theirs::state(&t) };
+                    let theirs = TableAnswer { answer: refused(0, 0), recorded: 0, skipped: 0, state };
+                    tally.same("tables restored", input, &theirs, &ours);
+                    self.held = (holding(&self.held.0, &t.sequence_numbers), holding(&self.held.1, &t.timestamps));
+                    tally.holds("tables restored", input, &self.held, &(self.seqs.all(), self.secs.all()));
+                }
+            },
+        }
+    }
+}
+
+/// Rules 11, 12 and 13, as document 01 has them.
+pub fn unfit(seqs: &[u64], secs: &[i64]) -> Option<(u32, u64)> {
+    let drop = |i: usize| i as u64 + 1;
+    let seq = seqs.windows(2).position(|w| w[1] < w[0]).map(|i| (11, drop(i)));
+    let sec = secs.windows(2).position(|w| w[1] < w[0]).map(|i| (12, drop(i)));
+    let outside = secs.iter().position(|s| !(FIRST_SECOND..=LAST_SECOND).contains(s)).map(|i| (13, i as u64));
+    seq.or(sec).or(outside)
+}
+
+fn all(tally: &mut Tally, chance: &mut Chance, lending: &mut Lending, bytes: &[u8]) {
+    image_len(tally, bytes);
+    let count = SequenceTracker::from_bytes(bytes).map_or(20, |t| t.timestamps.len());
+    let more = 1 + chance.index(4);
+    let room = chance.of(&[count, count + more, count / 2, 600]);
+    decode(tally, chance, bytes, room);
+    lending.restore(tally, bytes);
+}
+
+/// An image with two bytes in the place of the codes of an array of n values.
+fn coded(n: u8, bytes: [u8; 2]) -> Vec<u8> {
+    let mut image = vec![1, n, 0, 0, 0, 0, 0, 0, n, 0, 0, 0, 0, 0, 0, 0, 100];
+    image.extend(bytes);
+    image.extend([0, 0, 0, n, 0, 0, 0, 0, 0, 0, 0, 60, 0, 0]);
+    image
+}
+
+pub fn exhaustive(tally: &mut Tally) {
+    let chance = &mut Chance::new(1);
+    let mut lending = Lending::new(chance);
+    all(tally, chance, &mut lending, &[]);
+    for x in 0..=255 {
+        all(tally, chance, &mut lending, &[x]);
+        all(tally, chance, &mut lending, &[1, x]);
+        (0..=255).for_each(|y| image_len(tally, &[x, y]));
+    }
+    for x in 0..=65535u16 {
+        for n in [2, 3] {
+            let image = coded(n, x.to_be_bytes());
+            image_len(tally, &image);
+            decode(tally, chance, &image, 3);
+        }
+    }
+    let image = theirs::table(8192, 60, &[100, 164, 170, 5000, 5001], &[0, 60, 120, 4000, 1 << 33]).to_bytes();
+    for i in 0..image.len() {
+        all(tally, chance, &mut lending, &image[..i]);
+        for x in 0..=255 {
+            let mut changed = image.clone();
+            changed[i] = x;
+            all(tally, chance, &mut lending, &changed);
+        }
+    }
+}
+
+/// One to three kinds of damage.
+fn damage(chance: &mut Chance, bytes: &mut Vec<u8>) {
+    for _ in 0..=chance.below(3) {
+        let at = chance.below(bytes.len().max(1) as u64) as usize;
+        match chance.below(6) {
+            0 => bytes.truncate(at),
+            1 if at < bytes.len() => bytes[at] ^= 1 << chance.below(8),
+            2 if at < bytes.len() => bytes[at] = chance.word() as u8,
+            3 if at < bytes.len() => drop(bytes.remove(at)),
+            4 => bytes.insert(at, chance.of(&[0, 1, 255])),
+            _ => bytes.truncate(bytes.len().saturating_sub(chance.index(12))),
+        }
+    }
+}
+
+pub fn random(tally: &mut Tally, chance: &mut Chance) {
+    let mut lending = Lending::new(chance);
+    for i in 0..1500 {
+        let n = match i {
+            0..=1494 => chance.index(10),
+            1495..=1498 => chance.index(500),
+            _ => 8193,
+        };
+        let orderly = chance.below(2) == 0;
+        let seqs = if orderly { chance.seqs(n) } else { chance.values(n).into_iter().map(|x| x as u64).collect() };
+        let secs = if orderly { chance.secs(n) } else { chance.values(n) };
+        let mut bytes = theirs::table(8192, 60, &seqs, &secs).to_bytes();
+        let follows = chance.index(5);
+        bytes.extend(chance.bytes(follows));
+        all(tally, chance, &mut lending, &bytes);
+        damage(chance, &mut bytes);
+        all(tally, chance, &mut lending, &bytes);
+        let mut noise = vec![1, chance.below(4) as u8, 0, 0, 0, 0, 0, 0, chance.below(4) as u8];
+        let more = chance.index(40);
+        noise.extend(chance.bytes(more));
+        all(tally, chance, &mut lending, &noise);
+    }
+}

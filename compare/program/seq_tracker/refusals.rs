@@ -1,0 +1,147 @@
+//! Refusals that the Rust does not have: what document 01 says, and that every lent place stays as it was.
+use super::chance::{Chance, FIRST_SECOND, LAST_SECOND};
+use super::lent;
+use super::offers::shown;
+use super::ours::{self, Answer, Table, TableAnswer, NO_STATE};
+use super::readers::unfit;
+use super::tally::Tally;
+use super::theirs;
+
+fn told(number: u32, a: u64, b: u64) -> Answer {
+    Answer { number, a, b, c: 0 }
+}
+
+fn no_table(answer: Answer) -> TableAnswer {
+    TableAnswer { answer, recorded: 0, skipped: 0, state: NO_STATE }
+}
+
+/// Rules 14, 11, 12 and 13 on a table, as document 01 has them.
+fn judged(t: &Table) -> Option<Answer> {
+    let s = t.state;
+    let room = (s.capacity as usize).max(1);
+    let domain = FIRST_SECOND..=LAST_SECOND;
+    let fits = s.capacity <= 8192
+        && s.interval_secs <= i64::MAX as u64
+        && t.seqs.len() >= room
+        && t.secs.len() >= room
+        && s.count <= room
+        && (s.has_last != 0) == (s.count != 0)
+        && (s.has_last == 0 || domain.contains(&s.last) && s.last >= t.secs.places()[s.count - 1]);
+    if !fits {
+        return Some(told(14, 0, 0));
+    }
+    unfit(&t.seqs.places()[..s.count], &t.secs.places()[..s.count]).map(|(number, index)| told(number, index, 0))
+}
+
+/// A table with something wrong, most of the time.
+fn spoiled(chance: &mut Chance) -> Table {
+    let n = 1 + chance.index(8);
+    let (mut seqs, mut secs) = (chance.seqs(n), chance.secs(n));
+    let t = theirs::table(n as u32 + chance.below(2) as u32, 60, &seqs, &secs);
+    let mut state = theirs::state(&t);
+    let at = chance.index(n);
+    match chance.below(13) {
+        0 => state.capacity = chance.of(&[8193, u32::MAX, 9000]),
+        1 => state.interval_secs = chance.of(&[1 << 63, u64::MAX]),
+        2 => state.count = chance.of(&[0, n + 2, usize::MAX]),
+        3 => state.has_last = 0,
+        4 => state.last = chance.of(&[FIRST_SECOND - 1, LAST_SECOND + 1, i64::MIN, i64::MAX]),
+        5 => state.last = secs[n - 1] - 1,
+        6 => seqs[at] = seqs[at].wrapping_sub(1 + chance.below(50)),
+        7 => secs[at] -= 1 + chance.below(50) as i64,
+        8 => secs[0] = FIRST_SECOND - 1 - chance.below(9) as i64,
+        9 => state.capacity += 3,
+        10 => state.has_last = chance.word() as u32,
+        11 => seqs[at] = chance.word(),
+        _ => secs[at] = chance.word() as i64,
+    }
+    let spare = state.capacity.min(10) as usize - n.min(state.capacity.min(10) as usize);
+    let less = chance.index(2);
+    let short = if chance.below(8) == 0 { spare.saturating_sub(1) } else { spare };
+    Table { state, seqs: lent::seqs(chance, &seqs, spare + less), secs: lent::secs(chance, &secs, short) }
+}
+
+/// Every call on a table that document 01 refuses.
+fn bad_table(tally: &mut Tally, chance: &mut Chance) {
+    let mut t = spoiled(chance);
+    let Some(rule) = judged(&t) else { return };
+    let kind = ["tables refused, 11", "tables refused, 12", "tables refused, 13", "tables refused, 14"][rule.number as usize - 11];
+    let before = (t.seqs.all(), t.secs.all());
+    let described = format!("{:?}, sequences {:?}, seconds {:?}", t.state, t.seqs.places(), t.secs.places());
+    let input = || described.clone();
+    let mut out = lent::bytes(chance, 40);
+    let clean = out.all();
+    let good = theirs::table(3, 60, &[1, 2], &[5, 6]);
+    let mut own = super::offers::table_of(chance, &good);
+    let own_before = (own.seqs.all(), own.secs.all());
+    let which = |table: u64| if rule.number == 14 { told(14, table, 0) } else { told(rule.number, rule.a, table) };
+    tally.ruled(kind, input, &no_table(rule), &t.offer(chance.word(), chance.word() as i64));
+    tally.ruled(kind, input, &no_table(rule), &t.offer_pairs(&[1, 2, 3], &[1, 2, 3]));
+    tally.ruled(kind, input, &no_table(which(0)), &t.extend_from(&own));
+    tally.ruled(kind, input, &no_table(which(1)), &own.extend_from(&t));
+    tally.ruled(kind, input, &rule, &t.find_ts(chance.word(), 0));
+    tally.ruled(kind, input, &rule, &t.find_seq(chance.word() as i64, 1));
+    tally.ruled(kind, input, &rule, &t.save(false, &mut out));
+    tally.ruled(kind, input, &rule, &t.save(true, &mut out));
+    tally.kept(kind, input, &(before, clean, own_before), &((t.seqs.all(), t.secs.all()), out.all(), (own.seqs.all(), own.secs.all())));
+}
+
+/// 15 and 16.
+fn settings_and_seconds(tally: &mut Tally, chance: &mut Chance) {
+    let (capacity, interval) = (chance.of(&[8193, u32::MAX, 5]), chance.of(&[1 << 63, u64::MAX]));
+    let input = || format!("capacity {capacity}, interval {interval}");
+    tally.ruled("settings refused, 15", input, &no_table(told(15, 0, 0)), &ours::with_config(capacity, interval));
+    let t = theirs::table(4, 60, &[1, 2], &[5, 6]);
+    let mut ours = super::offers::table_of(chance, &t);
+    let sec = chance.of(&[FIRST_SECOND - 1, LAST_SECOND + 1, i64::MIN, i64::MAX]);
+    let before = (ours.seqs.all(), ours.secs.all());
+    let input = || format!("(9, {sec}) offered to {}", shown(&t));
+    tally.ruled("offers refused, 16", input, &no_table(told(16, 0, 0)), &ours.offer(9, sec));
+    tally.kept("offers refused, 16", input, &before, &(ours.seqs.all(), ours.secs.all()));
+    let stopped = TableAnswer { answer: told(16, 1, 0), recorded: 0, skipped: 1, state: ours.state };
+    tally.ruled("lists of offers stopped, 16", input, &stopped, &ours.offer_pairs(&[9, 9], &[7, sec]));
+    tally.kept("lists of offers stopped, 16", input, &before, &(ours.seqs.all(), ours.secs.all()));
+}
+
+/// 18, 19, and 14 of a restore into too little room.
+fn arrays(tally: &mut Tally, chance: &mut Chance) {
+    let (n, m) = (chance.index(9), 9 + chance.index(9));
+    let (seqs, secs) = (chance.seqs(n), chance.secs(m));
+    let mut out = lent::bytes(chance, 200);
+    let before = out.all();
+    let input = || format!("sequences {seqs:?}, seconds {secs:?}");
+    tally.ruled("encoders refused, 18", input, &told(18, 0, 0), &ours::encoded_len(&seqs, &secs));
+    for strict in [false, true] {
+        tally.ruled("encoders refused, 18", input, &told(18, 0, 0), &ours::encode(strict, &seqs, &secs, &mut out));
+    }
+    tally.kept("encoders refused, 18", input, &before, &out.all());
+    let image = theirs::table(8, 60, &[1], &[2]).to_bytes();
+    let (mut seqs, mut secs) = (lent::seqs(chance, &[], 8192), lent::secs(chance, &[], 8191));
+    let before = (seqs.all(), secs.all());
+    tally.ruled("restores refused, 14", || "8,191 seconds".into(), &no_table(told(14, 0, 0)), &Table::restore(&image, &mut seqs, &mut secs));
+    tally.kept("restores refused, 14", || "8,191 seconds".into(), &before, &(seqs.all(), secs.all()));
+}
+
+fn too_many(tally: &mut Tally, chance: &mut Chance) {
+    let (seqs, secs) = (vec![7; 65_537], vec![7; 65_537]);
+    let mut out = lent::bytes(chance, 20_000);
+    let before = out.all();
+    let input = || "65,537 values".into();
+    tally.ruled("encoders refused, 19", input, &told(19, 0, 0), &ours::encoded_len(&seqs, &secs));
+    for strict in [false, true] {
+        tally.ruled("encoders refused, 19", input, &told(19, 0, 0), &ours::encode(strict, &seqs, &secs, &mut out));
+    }
+    tally.kept("encoders refused, 19", input, &before, &out.all());
+    super::encoders::both(tally, chance, &seqs[1..], &secs[1..]);
+}
+
+pub fn random(tally: &mut Tally, chance: &mut Chance) {
+    for _ in 0..2000 {
+        bad_table(tally, chance);
+    }
+    for _ in 0..50 {
+        settings_and_seconds(tally, chance);
+        arrays(tally, chance);
+    }
+    too_many(tally, chance);
+}

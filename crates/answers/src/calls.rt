@@ -1,0 +1,246 @@
+// The answer of each call below, as it crosses.
+ghost use mathlib.Core.Path.{_≡_};
+ghost use Rattle.bits.specs.Read.{toldRead};
+ghost use Rattle.bits.specs.Write.{toldWrite};
+ghost use Rattle.bits.specs.Extend.{toldExtend};
+ghost use Rattle.encoder.specs.Encode as encoding;
+ghost use Rattle.decoder.specs.Decode as decoding;
+ghost use Rattle.tracker.specs.Refusal.{toldMade};
+ghost use Rattle.lookup.specs.Found.{toldTs, toldSeq};
+ghost use Rattle.offers.specs.Offer.{toldOffer};
+ghost use Rattle.log.specs.Log.{toldLog};
+ghost use Rattle.log.specs.Extend.{toldExtended};
+ghost use Rattle.store.specs.Save.{toldSave};
+ghost use Rattle.store.specs.Restore.{toldRestore};
+ghost use Rattle.answers.specs.Answer.{given, ofCount, ofSigned, ofPiece, ofPlace, ofTs, ofSeq};
+ghost use Rattle.answers.specs.Table.{ofTable, ofOffer, ofLog};
+use crate::Answer;
+use crate::TableAnswer;
+use crate::refusals;
+use crate::states;
+use bits::BitsRead;
+use bits::BitsWritten;
+use bits::Extended;
+use bits::as_unsigned;
+use decoder::Decoded;
+use decoder::ImageLen;
+use encoder::Encoded;
+use encoder::EncodedLen;
+use log::Logged;
+use lookup::FoundSeq;
+use lookup::FoundTs;
+use offers::Offered;
+use store::Restored;
+use store::Saved;
+use tracker::Made;
+use tracker::SequenceTracker;
+
+fn given(a: u64, b: u64, c: u64) -> Answer
+    ensures { λ r. ⌜ r ≡ given a b c ⌝ }
+{
+    Answer {
+        number: 0,
+        a: a,
+        b: b,
+        c: c,
+    }
+}
+
+// A refusal that tells nothing else.
+fn plain(number: u32) -> Answer
+    ensures { λ r. ⌜ r ≡ record { number = number; a = 0; b = 0; c = 0 } ⌝ }
+{
+    Answer {
+        number: number,
+        a: 0,
+        b: 0,
+        c: 0,
+    }
+}
+
+// 21, with the bytes needed.
+fn too_short(bytes: usize) -> Answer
+    ensures { λ r. ⌜ r ≡ record { number = 21; a = bytes; b = 0; c = 0 } ⌝ }
+{
+    Answer {
+        number: 21,
+        a: bytes as u64,
+        b: 0,
+        c: 0,
+    }
+}
+
+pub fn of_read(read: BitsRead) -> Answer
+    ensures { λ r. ⌜ r ≡ ofPiece (toldRead read) ⌝ }
+{
+    match read {
+        BitsRead::Value(value, next) => given(value, next.byte as u64, next.bit as u64),
+        BitsRead::Width => plain(23),
+        BitsRead::Short => plain(24),
+    }
+}
+
+pub fn of_written(written: BitsWritten) -> Answer
+    ensures { λ r. ⌜ r ≡ ofPlace (toldWrite written) ⌝ }
+{
+    match written {
+        BitsWritten::Done(next) => given(next.byte as u64, next.bit as u64, 0),
+        BitsWritten::Width => plain(23),
+        BitsWritten::Short(bytes) => too_short(bytes),
+    }
+}
+
+pub fn of_extension(extended: Extended) -> Answer
+    ensures { λ r. ⌜ r ≡ ofSigned (toldExtend extended) ⌝ }
+{
+    match extended {
+        Extended::Value(z) => given(as_unsigned(z), 0, 0),
+        Extended::Width => plain(23),
+    }
+}
+
+pub fn of_encoded_len(len: EncodedLen) -> Answer
+    ensures { λ r. ⌜ r ≡ ofCount (encoding.toldLen len) ⌝ }
+{
+    match len {
+        EncodedLen::Bytes(n) => given(n as u64, 0, 0),
+        EncodedLen::Refused(why) => refusals::encoding(why),
+    }
+}
+
+pub fn of_encoded(encoded: Encoded) -> Answer
+    ensures { λ r. ⌜ r ≡ ofCount (encoding.toldEncode encoded) ⌝ }
+{
+    match encoded {
+        Encoded::Written(n) => given(n as u64, 0, 0),
+        Encoded::Refused(why) => refusals::encoding(why),
+    }
+}
+
+pub fn of_decoded(decoded: Decoded) -> Answer
+    ensures { λ r. ⌜ r ≡ ofCount (decoding.toldDecode decoded) ⌝ }
+{
+    match decoded {
+        Decoded::Count(n) => given(n as u64, 0, 0),
+        Decoded::Refused(why) => refusals::reading(why),
+    }
+}
+
+pub fn of_image_len(len: ImageLen) -> Answer
+    ensures { λ r. ⌜ r ≡ ofCount (decoding.toldLen len) ⌝ }
+{
+    match len {
+        ImageLen::Bytes(n) => given(n as u64, 0, 0),
+        ImageLen::Refused(why) => refusals::reading(why),
+    }
+}
+
+pub fn of_found_ts(found: FoundTs) -> Answer
+    ensures { λ r. ⌜ r ≡ ofTs (toldTs found) ⌝ }
+{
+    match found {
+        FoundTs::At(s) => given(1, as_unsigned(s.0), 0),
+        FoundTs::Nothing => given(0, 0, 0),
+        FoundTs::Refused(why) => refusals::of_table(why),
+    }
+}
+
+pub fn of_found_seq(found: FoundSeq) -> Answer
+    ensures { λ r. ⌜ r ≡ ofSeq (toldSeq found) ⌝ }
+{
+    match found {
+        FoundSeq::At(q) => given(1, q.0, 0),
+        FoundSeq::Nothing => given(0, 0, 0),
+        FoundSeq::Refused(why) => refusals::of_table(why),
+    }
+}
+
+pub fn of_saved(saved: Saved) -> Answer
+    ensures { λ r. ⌜ r ≡ ofCount (toldSave saved) ⌝ }
+{
+    match saved {
+        Saved::Written(n) => given(n as u64, 0, 0),
+        Saved::Refused(why) => refusals::of_table(why),
+        Saved::NotEncoded(why) => refusals::encoding(why),
+    }
+}
+
+pub fn of_made(made: Made) -> TableAnswer
+    ensures { λ r. ⌜ r ≡ ofTable (toldMade made) ⌝ }
+{
+    match made {
+        Made::Table(table) => states::stands(table, 0, 0),
+        Made::Refused(why) => states::no_table(refusals::of_table(why)),
+    }
+}
+
+pub fn of_offered(table: SequenceTracker, offered: Offered) -> TableAnswer
+    ensures { λ r. ⌜ r ≡ ofOffer table (toldOffer offered) ⌝ }
+{
+    match offered {
+        Offered::Recorded(grown) => states::stands(grown, 1, 0),
+        Offered::Skipped => states::stands(table, 0, 1),
+        Offered::Refused(why) => states::no_table(refusals::of_table(why)),
+    }
+}
+
+pub fn of_logged(logged: Logged) -> TableAnswer
+    ensures { λ r. ⌜ r ≡ ofLog (toldLog logged) ⌝ }
+{
+    match logged {
+        Logged::Done {
+            table,
+            recorded,
+            skipped,
+        } => states::stands(table, recorded, skipped),
+        Logged::Stopped {
+            at,
+            why,
+            table,
+            recorded,
+            skipped,
+        } => states::with_table(
+            refusals::of_table_and(why, at as u64),
+            table,
+            recorded,
+            skipped,
+        ),
+        Logged::Refused(why) => states::no_table(refusals::of_table(why)),
+    }
+}
+
+pub fn of_extended(extended: log::Extended) -> TableAnswer
+    ensures { λ r. ⌜ r ≡ ofLog (toldExtended extended) ⌝ }
+{
+    match extended {
+        log::Extended::Done {
+            table,
+            recorded,
+            skipped,
+        } => states::stands(table, recorded, skipped),
+        log::Extended::Stopped {
+            at,
+            why,
+            table,
+            recorded,
+            skipped,
+        } => states::with_table(
+            refusals::of_table_and(why, at as u64),
+            table,
+            recorded,
+            skipped,
+        ),
+        log::Extended::OwnRefused(why) => states::no_table(refusals::of_table_and(why, 0)),
+        log::Extended::OtherRefused(why) => states::no_table(refusals::of_table_and(why, 1)),
+    }
+}
+
+pub fn of_restored(restored: Restored) -> TableAnswer
+    ensures { λ r. ⌜ r ≡ ofTable (toldRestore restored) ⌝ }
+{
+    match restored {
+        Restored::Table(table) => states::stands(table, 0, 0),
+        Restored::Refused(why) => states::no_table(refusals::of_table(why)),
+        Restored::NotDecoded(why) => states::no_table(refusals::reading(why)),
+    }
+}

@@ -1,0 +1,19 @@
+// The conversions, for the exported calls.
+pub use crate::calls::of_decoded;
+pub use crate::calls::of_encoded;
+pub use crate::calls::of_encoded_len;
+pub use crate::calls::of_extended;
+pub use crate::calls::of_extension;
+pub use crate::calls::of_found_seq;
+pub use crate::calls::of_found_ts;
+pub use crate::calls::of_image_len;
+pub use crate::calls::of_logged;
+pub use crate::calls::of_made;
+pub use crate::calls::of_offered;
+pub use crate::calls::of_read;
+pub use crate::calls::of_restored;
+pub use crate::calls::of_saved;
+pub use crate::calls::of_written;
+pub use crate::states::round_of;
+pub use crate::states::stands;
+pub use crate::states::table_of;

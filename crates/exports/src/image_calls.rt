@@ -1,0 +1,52 @@
+// Images of arrays, written and read.
+ghost use mathlib.Core.Path.{_≡_};
+ghost use lib.ListN.{length};
+ghost use Rattle.encoder.specs.Encode as encoding;
+ghost use Rattle.decoder.specs.Decode as decoding;
+ghost use Rattle.answers.specs.Answer.{ofCount};
+use answers::Answer;
+use answers::inner;
+
+// Gives the bytes of the image.
+#[no_mangle]
+pub extern "C" fn skut_encoded_len(seqs: &[u64], secs: &[i64]) -> Answer
+    ensures { λ r. ⌜ r ≡ ofCount (encoding.lenRule (now (seqs .entry)) (now (secs .entry))) ⌝ }
+{
+    inner::of_encoded_len(encoder::encoded_len(seqs, secs))
+}
+
+// Gives the bytes written.
+#[no_mangle]
+pub extern "C" fn skut_encode(seqs: &[u64], secs: &[i64], out: &mut [u8]) -> Answer
+    ensures answer { λ r. ⌜ r ≡ ofCount (encoding.encodeRule (now (seqs .entry)) (now (secs .entry)) (length (now (out .entry)))) ⌝ }
+    ensures out { λ r. ⌜ now (out .exit) ≡ encoding.encodedIn (now (seqs .entry)) (now (secs .entry)) (encoding.encodeRule (now (seqs .entry)) (now (secs .entry)) (length (now (out .entry)))) (now (out .entry)) ⌝ }
+{
+    inner::of_encoded(encoder::encode(seqs, secs, out))
+}
+
+// Gives the bytes written.
+#[no_mangle]
+pub extern "C" fn skut_encode_strict(seqs: &[u64], secs: &[i64], out: &mut [u8]) -> Answer
+    ensures answer { λ r. ⌜ r ≡ ofCount (encoding.strictRule (now (seqs .entry)) (now (secs .entry)) (length (now (out .entry)))) ⌝ }
+    ensures out { λ r. ⌜ now (out .exit) ≡ encoding.encodedIn (now (seqs .entry)) (now (secs .entry)) (encoding.strictRule (now (seqs .entry)) (now (secs .entry)) (length (now (out .entry)))) (now (out .entry)) ⌝ }
+{
+    inner::of_encoded(encoder::encode_strict(seqs, secs, out))
+}
+
+// The list reader. Gives the pair count.
+#[no_mangle]
+pub extern "C" fn skut_decode(bytes: &[u8], seqs: &mut [u64], secs: &mut [i64]) -> Answer
+    ensures answer { λ r. ⌜ r ≡ ofCount (decoding.decodeRule (now (bytes .entry)) (now (seqs .entry)) (now (secs .entry))) ⌝ }
+    ensures seqs { λ r. ⌜ now (seqs .exit) ≡ decoding.seqsAfter (now (bytes .entry)) (now (seqs .entry)) (now (secs .entry)) ⌝ }
+    ensures secs { λ r. ⌜ now (secs .exit) ≡ decoding.secsAfter (now (bytes .entry)) (now (seqs .entry)) (now (secs .entry)) ⌝ }
+{
+    inner::of_decoded(decoder::decode(bytes, seqs, secs))
+}
+
+// Gives the image's length: what follows it starts there.
+#[no_mangle]
+pub extern "C" fn skut_image_len(bytes: &[u8]) -> Answer
+    ensures { λ r. ⌜ r ≡ ofCount (decoding.lenRule (now (bytes .entry))) ⌝ }
+{
+    inner::of_image_len(decoder::image_len(bytes))
+}

@@ -1,0 +1,119 @@
+// A table: settings, offers, lookups. A second is a signed number, a sequence an unsigned one.
+ghost use mathlib.Core.Path.{_≡_};
+ghost use Rattle.bits.specs.Told.{gave};
+ghost use Rattle.tracker.specs.Settings.{newTable, configOf};
+ghost use Rattle.lookup.specs.Find.{findTs, findSeq};
+ghost use Rattle.offers.specs.Offer.{offerOf, after};
+ghost use Rattle.log.specs.Log.{recordsOf, logOf};
+ghost use Rattle.log.specs.Extend.{extendOf};
+ghost use Rattle.answers.specs.Answer.{ofTs, ofSeq};
+ghost use Rattle.answers.specs.Table.{tableOf, roundOf, stands, ofTable, ofOffer, ofLog};
+use answers::Answer;
+use answers::State;
+use answers::TableAnswer;
+use answers::inner;
+use tracker::Second;
+use tracker::Seq;
+
+// An empty table with the default settings.
+#[no_mangle]
+pub extern "C" fn skut_new() -> TableAnswer
+    ensures { λ r. ⌜ r ≡ stands newTable 0 0 ⌝ }
+{
+    inner::stands(tracker::new(), 0, 0)
+}
+
+// An empty table with the settings named.
+#[no_mangle]
+pub extern "C" fn skut_with_config(capacity: u32, interval_secs: u64) -> TableAnswer
+    ensures { λ r. ⌜ r ≡ ofTable (configOf capacity «interval_secs») ⌝ }
+{
+    inner::of_made(tracker::with_config(capacity, interval_secs))
+}
+
+// Recorded is 1 or skipped is 1; skipped, the state is as it was.
+#[no_mangle]
+pub extern "C" fn skut_offer(
+    state: State,
+    seqs: &mut [u64],
+    secs: &mut [i64],
+    seq: u64,
+    sec: i64,
+) -> TableAnswer
+    ensures answer { λ r. ⌜ r ≡ ofOffer (tableOf state) (offerOf (tableOf state) (now (seqs .entry)) (now (secs .entry)) (record { 0 = seq }) (record { 0 = sec })) ⌝ }
+    ensures seqs { λ r. ⌜ now (seqs .exit) ≡ after (offerOf (tableOf state) (now (seqs .entry)) (now (secs .entry)) (record { 0 = seq }) (record { 0 = sec })) (tableOf state) (now (seqs .entry)) seq ⌝ }
+    ensures secs { λ r. ⌜ now (secs .exit) ≡ after (offerOf (tableOf state) (now (seqs .entry)) (now (secs .entry)) (record { 0 = seq }) (record { 0 = sec })) (tableOf state) (now (secs .entry)) sec ⌝ }
+{
+    let table = inner::table_of(state);
+    let offered = offers::offer(table, seqs, secs, Seq(seq), Second(sec));
+    inner::of_offered(table, offered)
+}
+
+// A list of offers, as many as the shorter of two lists has. Stopped at a record, the answer tells its position.
+#[no_mangle]
+pub extern "C" fn skut_offer_pairs(
+    state: State,
+    seqs: &mut [u64],
+    secs: &mut [i64],
+    from_seqs: &[u64],
+    from_secs: &[i64],
+) -> TableAnswer
+    ensures answer { λ r. ⌜ r ≡ ofLog (logOf (tableOf state) (now (seqs .entry)) (now (secs .entry)) (recordsOf (now («from_seqs» .entry)) (now («from_secs» .entry))) .answer) ⌝ }
+    ensures seqs { λ r. ⌜ now (seqs .exit) ≡ logOf (tableOf state) (now (seqs .entry)) (now (secs .entry)) (recordsOf (now («from_seqs» .entry)) (now («from_secs» .entry))) .seqs ⌝ }
+    ensures secs { λ r. ⌜ now (secs .exit) ≡ logOf (tableOf state) (now (seqs .entry)) (now (secs .entry)) (recordsOf (now («from_seqs» .entry)) (now («from_secs» .entry))) .secs ⌝ }
+{
+    let table = inner::table_of(state);
+    inner::of_logged(log::offer_pairs(table, seqs, secs, from_seqs, from_secs))
+}
+
+// The pairs that another table keeps, offered. A bad table's refusal also tells, last, which it was: 0 the own, 1 the other.
+#[no_mangle]
+pub extern "C" fn skut_extend_from(
+    state: State,
+    seqs: &mut [u64],
+    secs: &mut [i64],
+    other: State,
+    other_seqs: &[u64],
+    other_secs: &[i64],
+) -> TableAnswer
+    ensures answer { λ r. ⌜ r ≡ ofLog (extendOf (tableOf state) (now (seqs .entry)) (now (secs .entry)) (tableOf other) (now («other_seqs» .entry)) (now («other_secs» .entry)) .answer) ⌝ }
+    ensures seqs { λ r. ⌜ now (seqs .exit) ≡ extendOf (tableOf state) (now (seqs .entry)) (now (secs .entry)) (tableOf other) (now («other_seqs» .entry)) (now («other_secs» .entry)) .seqs ⌝ }
+    ensures secs { λ r. ⌜ now (secs .exit) ≡ extendOf (tableOf state) (now (seqs .entry)) (now (secs .entry)) (tableOf other) (now («other_seqs» .entry)) (now («other_secs» .entry)) .secs ⌝ }
+{
+    let table = inner::table_of(state);
+    let from = inner::table_of(other);
+    let extended = log::extend_from(table, seqs, secs, from, other_seqs, other_secs);
+    inner::of_extended(extended)
+}
+
+// Gives 1 and the second for a sequence, by its 64 bits, or 0. A `round` of 0 rounds up, any other down.
+#[no_mangle]
+pub extern "C" fn skut_find_ts(
+    state: State,
+    seqs: &[u64],
+    secs: &[i64],
+    seq: u64,
+    round: u32,
+) -> Answer
+    ensures { λ r. ⌜ r ≡ ofTs (findTs (tableOf state) (now (seqs .entry)) (now (secs .entry)) (record { 0 = seq }) (roundOf round)) ⌝ }
+{
+    let table = inner::table_of(state);
+    let opt = inner::round_of(round);
+    inner::of_found_ts(lookup::find_ts(table, seqs, secs, Seq(seq), opt))
+}
+
+// Gives 1 and the sequence for a second, or 0.
+#[no_mangle]
+pub extern "C" fn skut_find_seq(
+    state: State,
+    seqs: &[u64],
+    secs: &[i64],
+    sec: i64,
+    round: u32,
+) -> Answer
+    ensures { λ r. ⌜ r ≡ ofSeq (findSeq (tableOf state) (now (seqs .entry)) (now (secs .entry)) (record { 0 = sec }) (roundOf round)) ⌝ }
+{
+    let table = inner::table_of(state);
+    let opt = inner::round_of(round);
+    inner::of_found_seq(lookup::find_seq(table, seqs, secs, Second(sec), opt))
+}
