@@ -144,15 +144,6 @@ pub fn put_bits(buf: &mut [u8], from: usize, first: u8, value: u64, width: u8)
     }
 }
 
-// A zero bit; the bits after it in its byte become 0 too.
-pub fn put_zero(buf: &mut [u8], byte: usize, bit: u8)
-    requires { ⌜ (bit < 8) × (byte < length (now buf)) ⌝ }
-    ensures { λ r. ⌜ now (buf .exit) ≡ putBits (now (buf .entry)) (byte * 8 + bit) 0 1 ⌝ }
-{
-    let x = merge(buf[byte], bit, 1, 0);
-    buf[byte] = x;
-}
-
 // The low `width` bits of a signed number.
 pub fn low_bits(d: i64, width: u8) -> u64
     requires { ⌜ width ≤ 63 ⌝ }

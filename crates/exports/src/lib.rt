@@ -3,7 +3,7 @@
 // Numbers, slices and structs of numbers cross; a slice is a pointer and a length. No call has a `requires`: any numbers
 // are taken, and what they do not make is refused by document 01's number. No call allocates. `skut_restore` takes 128 KB
 // of stack for arrays of its own; no other call keeps an array on the stack.
-mod bit_calls; // bit_calls.rt: bits in and out, sign extension
-mod image_calls; // image_calls.rt: images of arrays
-mod store_calls; // store_calls.rt: a table saved and restored
-mod table_calls; // table_calls.rt: a table: settings, offers, lookups
+pub mod bit_calls; // bit_calls.rt: bits in and out, sign extension
+pub mod image_calls; // image_calls.rt: images of arrays
+pub mod store_calls; // store_calls.rt: a table saved and restored
+pub mod table_calls; // table_calls.rt: a table: settings, offers, lookups
