@@ -40,6 +40,11 @@ abbrev pub ofPlace : Told Place → Answer
 ofPlace (gave p) = given (p .byte) (p .bit) 0
 ofPlace (refused what) = refusedBy what
 
+-- a check: a good table gives no values
+abbrev pub ofCheck : Told (Unit {0}) → Answer
+ofCheck (gave _) = given 0 0 0
+ofCheck (refused what) = refusedBy what
+
 -- a lookup: 1 and the partner (a second by its 64 bits), or 0 where nothing is answered
 abbrev pub ofTs : Told (Partner Second) → Answer
 ofTs (gave (partner s)) = given 1 (pattern (s .0)) 0

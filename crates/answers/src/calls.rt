@@ -5,14 +5,14 @@ ghost use Rattle.bits.specs.Write.{toldWrite};
 ghost use Rattle.bits.specs.Extend.{toldExtend};
 ghost use Rattle.encoder.specs.Encode as encoding;
 ghost use Rattle.decoder.specs.Decode as decoding;
-ghost use Rattle.tracker.specs.Refusal.{toldMade};
+ghost use Rattle.tracker.specs.Refusal.{toldCheck, toldMade};
 ghost use Rattle.lookup.specs.Found.{toldTs, toldSeq};
 ghost use Rattle.offers.specs.Offer.{toldOffer};
 ghost use Rattle.log.specs.Log.{toldLog};
 ghost use Rattle.log.specs.Extend.{toldExtended};
 ghost use Rattle.store.specs.Save.{toldSave};
 ghost use Rattle.store.specs.Restore.{toldRestore};
-ghost use Rattle.answers.specs.Answer.{given, ofCount, ofSigned, ofPiece, ofPlace, ofTs, ofSeq};
+ghost use Rattle.answers.specs.Answer.{given, ofCount, ofSigned, ofPiece, ofPlace, ofCheck, ofTs, ofSeq};
 ghost use Rattle.answers.specs.Table.{ofTable, ofOffer, ofLog};
 use crate::Answer;
 use crate::TableAnswer;
@@ -32,6 +32,7 @@ use lookup::FoundTs;
 use offers::Offered;
 use store::Restored;
 use store::Saved;
+use tracker::Checked;
 use tracker::Made;
 use tracker::SequenceTracker;
 
@@ -132,6 +133,15 @@ pub fn of_image_len(len: ImageLen) -> Answer
     match len {
         ImageLen::Bytes(n) => given(n as u64, 0, 0),
         ImageLen::Refused(why) => refusals::reading(why),
+    }
+}
+
+pub fn of_checked(checked: Checked) -> Answer
+    ensures { λ r. ⌜ r ≡ ofCheck (toldCheck checked) ⌝ }
+{
+    match checked {
+        Checked::Good => given(0, 0, 0),
+        Checked::Refused(why) => refusals::of_table(why),
     }
 }
 

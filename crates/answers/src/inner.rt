@@ -1,4 +1,5 @@
 // The conversions, for the exported calls.
+pub use crate::calls::of_checked;
 pub use crate::calls::of_decoded;
 pub use crate::calls::of_encoded;
 pub use crate::calls::of_encoded_len;

@@ -6,4 +6,4 @@
 pub mod bit_calls; // bit_calls.rt: bits in and out, sign extension
 pub mod image_calls; // image_calls.rt: images of arrays
 pub mod store_calls; // store_calls.rt: a table saved and restored
-pub mod table_calls; // table_calls.rt: a table: settings, offers, lookups
+pub mod table_calls; // table_calls.rt: a table: settings, the check, offers, lookups

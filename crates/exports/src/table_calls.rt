@@ -1,12 +1,13 @@
-// A table: settings, offers, lookups. A second is a signed number, a sequence an unsigned one.
+// A table: settings, the check, offers, lookups. A second is a signed number, a sequence an unsigned one.
 ghost use mathlib.Core.Path.{_≡_};
 ghost use Rattle.bits.specs.Told.{gave};
 ghost use Rattle.tracker.specs.Settings.{newTable, configOf};
+ghost use Rattle.tracker.specs.Table.{checkOf};
 ghost use Rattle.lookup.specs.Find.{findTs, findSeq};
 ghost use Rattle.offers.specs.Offer.{offerOf, after};
 ghost use Rattle.log.specs.Log.{recordsOf, logOf};
 ghost use Rattle.log.specs.Extend.{extendOf};
-ghost use Rattle.answers.specs.Answer.{ofTs, ofSeq};
+ghost use Rattle.answers.specs.Answer.{ofCheck, ofTs, ofSeq};
 ghost use Rattle.answers.specs.Table.{tableOf, roundOf, stands, ofTable, ofOffer, ofLog};
 use answers::Answer;
 use answers::State;
@@ -29,6 +30,15 @@ pub extern "C" fn skut_with_config(capacity: u32, interval_secs: u64) -> TableAn
     ensures { λ r. ⌜ r ≡ ofTable (configOf capacity «interval_secs») ⌝ }
 {
     inner::of_made(tracker::with_config(capacity, interval_secs))
+}
+
+// What every call on a table checks first. Gives nothing: the number is 0 where the table is good.
+#[no_mangle]
+pub extern "C" fn skut_check(state: State, seqs: &[u64], secs: &[i64]) -> Answer
+    ensures { λ r. ⌜ r ≡ ofCheck (checkOf (tableOf state) (now (seqs .entry)) (now (secs .entry))) ⌝ }
+{
+    let table = inner::table_of(state);
+    inner::of_checked(tracker::check(table, seqs, secs))
 }
 
 // Recorded is 1 or skipped is 1; skipped, the state is as it was.

@@ -39,9 +39,8 @@ pub fn offer_good(
         return Offered::Refused(Refusal::OfferedDrops);
     }
     let capacity = table.capacity as usize;
-    keep::seq_keep(seqs, n, capacity, q);
+    let count = keep::seq_keep(seqs, n, capacity, q);
     keep::sec_keep(secs, n, capacity, s);
-    let count = steps::kept_count(n, capacity);
     let grown = steps::with_pair(table, count, ts);
     Offered::Recorded(grown)
 }

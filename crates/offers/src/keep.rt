@@ -4,20 +4,23 @@ ghost use mathlib.Core.Path.{_≡_};
 ghost use Prim.Native.Nat.{_≤_, _<_};
 ghost use lib.ListN.{length};
 ghost use Rattle.bits.specs.Over.{over};
-ghost use Rattle.offers.specs.Keep.{appended, thinned};
+ghost use Rattle.offers.specs.Keep.{appended, thinned, countWith};
 
 // The positions that stay, counted from 0: the first, then every second one.
 const FIRST_KEPT: usize = 0;
 
 const STEP: usize = 2;
 
-pub(crate) fn seq_keep(seqs: &mut [u64], n: usize, capacity: usize, q: u64)
+// Gives how many pairs stay, of n and one more. Both arrays keep as many, so one of the two tells it; the sequences
+// come first, and whether there is room for one more has been tested here.
+pub(crate) fn seq_keep(seqs: &mut [u64], n: usize, capacity: usize, q: u64) -> usize
     requires { ⌜ (n ≤ length (now seqs)) × (capacity ≤ length (now seqs)) × (0 < length (now seqs)) ⌝ }
-    ensures { λ _. ⌜ now (seqs .exit) ≡ over (thinned capacity (appended n (now (seqs .entry)) q)) (now (seqs .entry)) ⌝ }
+    ensures count { λ r. ⌜ r ≡ countWith capacity n ⌝ }
+    ensures seqs { λ r. ⌜ now (seqs .exit) ≡ over (thinned capacity (appended n (now (seqs .entry)) q)) (now (seqs .entry)) ⌝ }
 {
     if n < capacity {
         seqs[n] = q;
-        return;
+        return n + 1;
     }
     let mut j = 0;
     let mut i = FIRST_KEPT;
@@ -29,6 +32,7 @@ pub(crate) fn seq_keep(seqs: &mut [u64], n: usize, capacity: usize, q: u64)
     if i == n {
         seqs[j] = q;
     }
+    n / 2 + 1
 }
 
 pub(crate) fn sec_keep(secs: &mut [i64], n: usize, capacity: usize, s: i64)

@@ -5,7 +5,6 @@ ghost use Prim.Native.Nat.{_≤_, _<_};
 ghost use lib.ListN.{length};
 ghost use Rattle.tracker.specs.Domain.{outside};
 ghost use Rattle.tracker.specs.Table.{lastOutside};
-ghost use Rattle.offers.specs.Keep.{countWith};
 ghost use Rattle.offers.specs.Offer.{tooSoon, lowSeq, stateWith};
 use tracker::LastRecorded;
 use tracker::Second;
@@ -35,17 +34,6 @@ pub(crate) fn low_seq(seqs: &[u64], n: usize, q: u64) -> bool
         return false;
     }
     q < seqs[n - 1]
-}
-
-// How many pairs stay of n and one more.
-pub(crate) fn kept_count(n: usize, capacity: usize) -> usize
-    requires { ⌜ n < 9223372036854775808 ⌝ }
-    ensures { λ r. ⌜ r ≡ countWith capacity n ⌝ }
-{
-    if n < capacity {
-        return n + 1;
-    }
-    n / 2 + 1
 }
 
 // The one place where the state after a recorded pair is built.

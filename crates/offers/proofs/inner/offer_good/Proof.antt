@@ -5,7 +5,7 @@ use native.Mathlib.Omega.{arith}
 use mir.Syntax.{w64}
 use mir.Val.{toZ, ofZ}
 use Rattle.tracker.specs.Domain.{outside}
-use Rattle.tracker.proofs.Good.{Agreed, fine, few, count-seqs, count-secs, capacity-seqs, capacity-secs}
+use Rattle.tracker.proofs.Good.{Agreed, fine, count-seqs, count-secs, capacity-seqs, capacity-secs}
 use Rattle.offers.specs.Offer.{tooSoon, lowSeq}
 use Rattle.offers.proofs.Thinned.{thinned-length}
 use Rattle.offers.proofs.inner.offer_good.Statement.{statement}
@@ -81,13 +81,6 @@ sec-keep-requires c κs =
     let a = sound (else2 .before .before .before .before .before .before) in
     (count-secs _ _ _ a, capacity-secs _ _ _ a .0, capacity-secs _ _ _ a .1)
 
-kept-count-requires : tie.Need-kept-count-requires
-kept-count-requires c κs =
-    let else3 = c .before .before .before .before .before .before .before .before in
-    let else2 = else3 .before .before .before in
-    let a = sound (else2 .before .before .before .before .before .before) in
-    omega (arith, few _ _ _ a)
-
 with-pair-requires : tie.Need-with-pair-requires
 with-pair-requires c κs = search needs
 
@@ -99,7 +92,7 @@ same-length-3 c = search needs
 
 returns-4 : tie.Need-returns-4
 returns-4 c =
-    let secs = c .before .before .before in
+    let secs = c .before .before in
     let seqs = secs .before .before .before .before in
     let else3 = seqs .before .before .before in
     let else2 = else3 .before .before .before in
@@ -108,9 +101,9 @@ returns-4 c =
     let start = told .before .before in
     let a = start .args in
     let length-is = thinned-length (a .table .count) (a .seqs .now) (a .seq .0) (count-seqs _ _ _ (sound start)) (a .table .capacity) in (
-      rw (start .pre, inside else1, late else2, rising else3, length-is, ← c .before .kept-count .ensures, c .with-pair .ensures),
+      rw (start .pre, inside else1, late else2, rising else3, length-is, ← seqs .seq-keep .ensures .0, c .with-pair .ensures),
       (
-        seqs .seq-keep .ensures,
+        seqs .seq-keep .ensures .1,
         rw (whole told) at (secs .sec-keep .ensures),
       ),
     )
@@ -129,7 +122,6 @@ offer-good-spec =
     cast-capacity
     seq-keep-requires
     sec-keep-requires
-    kept-count-requires
     with-pair-requires
     same-length-2
     same-length-3

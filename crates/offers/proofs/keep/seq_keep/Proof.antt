@@ -1,6 +1,11 @@
+use mathlib.Core.Path.{_≡_, _∙_}
+use mathlib.Core.Logic.{⊎-elim}
 use Prim.Native.Nat.{_≤_, _+_, _-_}
 use native.Mathlib.Omega.{arith}
+use borrow.Author.Tests.{lt-ltb, le-ltb}
 use lib.ListN.{length-set}
+use Rattle.bits.specs.Over.{over}
+use Rattle.offers.specs.Keep.{appended, thinned}
 use Rattle.offers.proofs.Halve.{Halving, halving-start, halving-more, added, ended-even, ended-odd}
 use Rattle.offers.proofs.keep.seq_keep.Statement.{statement}
 use Rattle.offers.proofs.keep.seq_keep.Tie as tie
@@ -17,11 +22,14 @@ mul-seqs c = omega arith
 slice-write-seqs : tie.Need-slice-write-seqs Inv-loop μ-loop
 slice-write-seqs c = omega arith
 
+add-result : tie.Need-add-result Inv-loop μ-loop
+add-result c = omega arith
+
 same-length : tie.Need-same-length Inv-loop μ-loop
 same-length c = simp length-set
 
 returns : tie.Need-returns Inv-loop μ-loop
-returns c = added _ _ _ _ (c .if1 .taken) (omega arith)
+returns c = (rw (lt-ltb _ _ (c .if1 .taken)), added _ _ _ _ (c .if1 .taken) (omega arith))
 
 loop-holds : tie.Need-loop-holds Inv-loop μ-loop
 loop-holds c = (halving-start 0 _, omega arith)
@@ -56,23 +64,28 @@ mul-seqs-4 c = let inv = c .before .before .loop .inv .0 in omega (arith, inv .s
 slice-write-seqs-3 : tie.Need-slice-write-seqs-3 Inv-loop μ-loop
 slice-write-seqs-3 c = let inv = c .before .before .loop .inv .0 in omega (arith, inv .same, inv .twice)
 
+-- what the array holds where the ways of the last test meet
+met : (c : tie.Joined2 Inv-loop μ-loop) → let a = c .before .before .before .before .args in
+    c .if2 .seqs ≡ over (thinned (a .capacity) (appended (a .n) (a .seqs .now) (a .q))) (a .seqs .now)
+met c =
+    let at = c .before .before in
+    let start = at .before .before in
+    let full = at .before .if1 .left in
+    let inv = at .loop .inv in
+    ⊎-elim (λ w. w .1 ∙ ended-even 0 _ _ _ _ _ _ (start .args .q) (start .pre .0) (start .pre .2) full (inv .0) (w .0 .taken))
+    (λ w. w .1 ∙ ended-odd 0 _ _ _ _ _ _ (start .args .q) (start .pre .0) (start .pre .2) full (inv .0) (omega (arith, w .0 .left)) (inv .1))
+    (c .if2 .came)
+
+add-result-2 : tie.Need-add-result-2 Inv-loop μ-loop
+add-result-2 c = omega arith
+
 same-length-2 : tie.Need-same-length-2 Inv-loop μ-loop
-same-length-2 c = simp length-set (c .before .before .loop .inv .0 .same)
+same-length-2 c =
+    let same = c .before .before .loop .inv .0 .same in
+    ⊎-elim (λ w. rw (w .1, length-set) same) (λ w. rw (w .1) same) (c .if2 .came)
 
 returns-2 : tie.Need-returns-2 Inv-loop μ-loop
-returns-2 c =
-    let at = c .before .before in
-    let start = at .before .before in
-    ended-even 0 _ _ _ _ _ _ (start .args .q) (start .pre .0) (start .pre .2) (at .before .if1 .left) (at .loop .inv .0) (c .if2 .taken)
-
-same-length-3 : tie.Need-same-length-3 Inv-loop μ-loop
-same-length-3 c = c .before .before .loop .inv .0 .same
-
-returns-3 : tie.Need-returns-3 Inv-loop μ-loop
-returns-3 c =
-    let at = c .before .before in
-    let start = at .before .before in
-    ended-odd 0 _ _ _ _ _ _ (start .args .q) (start .pre .0) (start .pre .2) (at .before .if1 .left) (at .loop .inv .0) (omega (arith, c .if2 .left)) (at .loop .inv .1)
+returns-2 c = (rw (le-ltb _ _ (c .before .before .before .if1 .left)), met c)
 
 pub seq-keep-spec : {M : Type 1} → statement M
 seq-keep-spec =
@@ -82,6 +95,7 @@ seq-keep-spec =
     μ-loop
     mul-seqs
     slice-write-seqs
+    add-result
     same-length
     returns
     loop-holds
@@ -95,7 +109,6 @@ seq-keep-spec =
     loop-again
     mul-seqs-4
     slice-write-seqs-3
+    add-result-2
     same-length-2
-    returns-2
-    same-length-3
-    returns-3)
+    returns-2)
