@@ -27,17 +27,16 @@ impl Bench {
     /// Both sides twice: the first time to warm up and to be compared, the second time between marks.
     fn work<A: PartialEq + std::fmt::Debug>(&mut self, name: &str, mut theirs: impl FnMut() -> A, mut ours: impl FnMut() -> A) {
         assert_eq!(theirs(), ours(), "{name}");
-        for side in ["rust", "ours"] {
-            self.marks += 1;
-            mark(0);
-            if side == "rust" {
-                black_box(theirs());
-            } else {
-                black_box(ours());
-            }
-            mark(self.marks);
-            println!("mark {} {name}, {side}", self.marks);
-        }
+        self.count(name, "rust", theirs);
+        self.count(name, "ours", ours);
+    }
+
+    fn count<A>(&mut self, name: &str, side: &str, mut work: impl FnMut() -> A) {
+        self.marks += 1;
+        mark(0);
+        black_box(work());
+        mark(self.marks);
+        println!("mark {} {name}, {side}", self.marks);
     }
 }
 
@@ -113,6 +112,10 @@ fn lookups(bench: &mut Bench, n: usize) {
         || rust_find(black_box(&t), black_box(&asked)),
         || black_box(&asked).iter().map(|&q| ours.find_ts(q, 1).b as i64).fold(0, i64::wrapping_add),
     );
+    // The check alone, as often: a lookup without it is the search.
+    let checks = || (0..1000).map(|_| black_box(&ours).check().number).max();
+    assert_eq!(checks(), Some(0));
+    bench.count(&format!("1,000 checks, mixed, {n}"), "ours", checks);
 }
 
 /// 100,000 offers of a second each. The Rust makes a `DateTime` of each second, as in its own `extend_from`, or has them ready.

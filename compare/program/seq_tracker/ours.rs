@@ -1,61 +1,14 @@
 //! Our side: the static library's functions. A slice crosses as a pointer and a length.
 use super::lent::Lent;
 
-#[repr(C)]
-#[derive(Clone, Copy, Debug, PartialEq, Eq)]
-pub struct Answer {
-    pub number: u32,
-    pub a: u64,
-    pub b: u64,
-    pub c: u64,
-}
+/// The declarations of the Rust crate.
+#[path = "../../../bindings/rust/src/sys.rs"]
+mod linked;
 
-#[repr(C)]
-#[derive(Clone, Copy, Debug, PartialEq, Eq)]
-pub struct State {
-    pub count: usize,
-    pub capacity: u32,
-    pub has_last: u32,
-    pub interval_secs: u64,
-    pub last: i64,
-}
-
-#[repr(C)]
-#[derive(Clone, Copy, Debug, PartialEq, Eq)]
-pub struct TableAnswer {
-    pub answer: Answer,
-    pub recorded: u64,
-    pub skipped: u64,
-    pub state: State,
-}
+pub use linked::{Answer, State, TableAnswer};
 
 /// What is returned where there is no state: every call refuses it.
 pub const NO_STATE: State = State { count: 0, capacity: u32::MAX, has_last: 0, interval_secs: 0, last: 0 };
-
-mod linked {
-    use super::{Answer, State, TableAnswer};
-    #[rustfmt::skip]
-    extern "C" {
-        pub fn skut_sign_extend(val: u32, bits: u8) -> Answer;
-        pub fn skut_read_bits(s: *const u8, n: usize, byte: usize, bit: u8, width: u8) -> Answer;
-        pub fn skut_write_bits(buf: *mut u8, n: usize, byte: usize, bit: u8, value: u64, width: u8) -> Answer;
-        pub fn skut_encoded_len(seqs: *const u64, n: usize, secs: *const i64, m: usize) -> Answer;
-        pub fn skut_encode(seqs: *const u64, n: usize, secs: *const i64, m: usize, out: *mut u8, k: usize) -> Answer;
-        pub fn skut_encode_strict(seqs: *const u64, n: usize, secs: *const i64, m: usize, out: *mut u8, k: usize) -> Answer;
-        pub fn skut_decode(bytes: *const u8, k: usize, seqs: *mut u64, n: usize, secs: *mut i64, m: usize) -> Answer;
-        pub fn skut_image_len(bytes: *const u8, k: usize) -> Answer;
-        pub fn skut_new() -> TableAnswer;
-        pub fn skut_with_config(capacity: u32, interval_secs: u64) -> TableAnswer;
-        pub fn skut_offer(state: State, seqs: *mut u64, n: usize, secs: *mut i64, m: usize, seq: u64, sec: i64) -> TableAnswer;
-        pub fn skut_offer_pairs(state: State, seqs: *mut u64, n: usize, secs: *mut i64, m: usize, from_seqs: *const u64, i: usize, from_secs: *const i64, j: usize) -> TableAnswer;
-        pub fn skut_extend_from(state: State, seqs: *mut u64, n: usize, secs: *mut i64, m: usize, other: State, other_seqs: *const u64, i: usize, other_secs: *const i64, j: usize) -> TableAnswer;
-        pub fn skut_find_ts(state: State, seqs: *const u64, n: usize, secs: *const i64, m: usize, seq: u64, round: u32) -> Answer;
-        pub fn skut_find_seq(state: State, seqs: *const u64, n: usize, secs: *const i64, m: usize, sec: i64, round: u32) -> Answer;
-        pub fn skut_save(state: State, seqs: *const u64, n: usize, secs: *const i64, m: usize, out: *mut u8, k: usize) -> Answer;
-        pub fn skut_save_strict(state: State, seqs: *const u64, n: usize, secs: *const i64, m: usize, out: *mut u8, k: usize) -> Answer;
-        pub fn skut_restore(bytes: *const u8, k: usize, seqs: *mut u64, n: usize, secs: *mut i64, m: usize) -> TableAnswer;
-    }
-}
 
 pub fn sign_extend(val: u32, bits: u8) -> Answer {
     unsafe { linked::skut_sign_extend(val, bits) }
@@ -106,6 +59,11 @@ pub struct Table {
 }
 
 impl Table {
+    pub fn check(&self) -> Answer {
+        let ((p, n), (q, m)) = (self.seqs.of(), self.secs.of());
+        unsafe { linked::skut_check(self.state, p, n, q, m) }
+    }
+
     pub fn offer(&mut self, seq: u64, sec: i64) -> TableAnswer {
         let ((p, n), (q, m)) = (self.seqs.of_mut(), self.secs.of_mut());
         unsafe { linked::skut_offer(self.state, p, n, q, m, seq, sec) }

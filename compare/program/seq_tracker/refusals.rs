@@ -64,7 +64,10 @@ fn spoiled(chance: &mut Chance) -> Table {
 /// Every call on a table that document 01 refuses.
 fn bad_table(tally: &mut Tally, chance: &mut Chance) {
     let mut t = spoiled(chance);
-    let Some(rule) = judged(&t) else { return };
+    let Some(rule) = judged(&t) else {
+        tally.ruled("tables found good", || format!("{:?}", t.state), &told(0, 0, 0), &t.check());
+        return;
+    };
     let kind = ["tables refused, 11", "tables refused, 12", "tables refused, 13", "tables refused, 14"][rule.number as usize - 11];
     let before = (t.seqs.all(), t.secs.all());
     let described = format!("{:?}, sequences {:?}, seconds {:?}", t.state, t.seqs.places(), t.secs.places());
@@ -75,6 +78,7 @@ fn bad_table(tally: &mut Tally, chance: &mut Chance) {
     let mut own = super::offers::table_of(chance, &good);
     let own_before = (own.seqs.all(), own.secs.all());
     let which = |table: u64| if rule.number == 14 { told(14, table, 0) } else { told(rule.number, rule.a, table) };
+    tally.ruled(kind, input, &rule, &t.check());
     tally.ruled(kind, input, &no_table(rule), &t.offer(chance.word(), chance.word() as i64));
     tally.ruled(kind, input, &no_table(rule), &t.offer_pairs(&[1, 2, 3], &[1, 2, 3]));
     tally.ruled(kind, input, &no_table(which(0)), &t.extend_from(&own));

@@ -1,0 +1,150 @@
+/* The sequence table's calls for C, and for whatever links C. `rt staticlib exports` writes the library, target/staticlib/libexports.a,
+ * for x86-64 and the System V convention of calls. docs/STATEMENTS.md has what is proved of each call.
+ *
+ * No argument makes a call misread: what numbers do not make is refused by a number of the list below. The caller answers for one thing, that a
+ * pointer and its length name memory of its own, and that what is written to overlaps nothing else of the same call. Where a length is
+ * 0, its pointer is not used and may be NULL.
+ *
+ * A refused call leaves every array as it was and returns no state. One case is different: skut_offer_pairs and skut_extend_from, refused at
+ * a record (16 or 17), keep and return what stood before that record.
+ *
+ * No call uses a heap or keeps anything after it returns. What stack each needs stands beside it; a test holds the library to that. */
+#ifndef SKUTLANEB_H
+#define SKUTLANEB_H
+
+#include <stddef.h>
+#include <stdint.h>
+
+#ifdef __cplusplus
+extern "C" {
+#endif
+
+/* What a call answers: number 0 and the values that it gives, or the number of its refusal and what that also tells. Values that are
+ * not told are 0. */
+struct skut_answer {
+    uint32_t number;
+    uint64_t a, b, c;
+};
+
+/* A table's state. Its pairs stand in two arrays of the caller's, each of as many places as the capacity says and at least one; `count` places
+ * are in use. `has_last` of 0 says that no second was recorded yet; any other number says that `last` is the last recorded one. A caller
+ * keeps the state that a call returns and passes it on; it changes nothing in it. */
+struct skut_state {
+    size_t count;
+    uint32_t capacity;
+    uint32_t has_last;
+    uint64_t interval_secs;
+    int64_t last;
+};
+
+/* What a call answers that returns a state. Where it returns none, `state` is one that every call refuses by 14. */
+struct skut_table_answer {
+    struct skut_answer answer;
+    uint64_t recorded, skipped;
+    struct skut_state state;
+};
+
+/* The numbers. "Array" is 0 for the sequences and 1 for the seconds; an index or a position counts from 0. What is told stands in a, b, c in
+ * the order named. */
+enum {
+    SKUT_DONE = 0,
+    SKUT_EMPTY = 1,             /* the input is empty */
+    SKUT_VERSION = 2,           /* the first byte is not 1, the version: the byte */
+    SKUT_HEADER_CUT = 3,        /* the input has fewer than 5 bytes */
+    SKUT_COUNT_CUT = 4,         /* the input ends in an array's count: array */
+    SKUT_FIRST_CUT = 5,         /* the input ends in an array's first value: array */
+    SKUT_CODE_MISSING = 6,      /* the input ends before a code: array, index */
+    SKUT_PREFIX_CUT = 7,        /* the input ends in a code's prefix: array, index */
+    SKUT_DIFFERENCE_CUT = 8,    /* the input ends in a code's difference: array, index, width of the difference */
+    SKUT_COUNT_DIFFERS = 9,     /* an array's count is not the header's: array */
+    SKUT_TOO_MANY_PAIRS = 10,   /* an array's count is above the shorter lent array or, in skut_restore, above 8,192: array */
+    SKUT_SEQUENCE_DROPS = 11,   /* a sequence is below the one before it: index */
+    SKUT_SECOND_DROPS = 12,     /* a second is below the one before it: index */
+    SKUT_SECOND_OUTSIDE = 13,   /* a second is outside the years 0001 to 9999: index */
+    SKUT_STATE_DISAGREES = 14,  /* the state and the arrays do not fit together */
+    SKUT_SETTINGS = 15,         /* the capacity is above 8,192 or the interval above 2^63-1 */
+    SKUT_OFFERED_OUTSIDE = 16,  /* the offered second is outside the years 0001 to 9999: of a list, the position */
+    SKUT_OFFERED_DROPS = 17,    /* the offered sequence is below the last kept one: of a list, the position */
+    SKUT_LENGTHS_DIFFER = 18,   /* the two arrays to encode differ in length */
+    SKUT_TOO_MANY_VALUES = 19,  /* each array to encode has more than 65,536 values */
+    SKUT_WIDE = 20,             /* strict: a difference of deltas is outside -2^31..2^31-1: array, index */
+    SKUT_ROOM = 21,             /* the output is too short: the bytes needed */
+    SKUT_INPUT_TOO_LONG = 22,   /* a program's input is above 16,384 bytes; no call here answers it */
+    SKUT_WIDTH = 23,            /* a bit width is above 64, or outside 1..32 in sign extension */
+    SKUT_BITS_SHORT = 24        /* fewer bits are left than asked for */
+};
+
+/* ---- A table */
+
+/* An empty table of capacity 8,192 and interval 60. Stack: 256 bytes. */
+struct skut_table_answer skut_new(void);
+
+/* An empty table: 15. Stack: 256 bytes. */
+struct skut_table_answer skut_with_config(uint32_t capacity, uint64_t interval_secs);
+
+/* Whether a table is good: 14, 11, 12, 13, in this order. Every call below that takes a table checks this first. Stack: 256 bytes. */
+struct skut_answer skut_check(struct skut_state state, const uint64_t *seqs, size_t seqs_len, const int64_t *secs, size_t secs_len);
+
+/* Offers a pair: `recorded` is 1, or `skipped` is 1 and the state is as it was; 16, 17. Stack: 512 bytes. */
+struct skut_table_answer skut_offer(struct skut_state state, uint64_t *seqs, size_t seqs_len, int64_t *secs, size_t secs_len, uint64_t seq, int64_t sec);
+
+/* Offers pairs in order, as many as the shorter of two lists has, up to the first that is refused (16, 17). Stack: 768 bytes. */
+struct skut_table_answer skut_offer_pairs(struct skut_state state, uint64_t *seqs, size_t seqs_len, int64_t *secs, size_t secs_len,
+                                          const uint64_t *from_seqs, size_t from_seqs_len, const int64_t *from_secs, size_t from_secs_len);
+
+/* Offers the pairs of another table. Where a table is bad (14, 11, 12, 13), which of the two is told last: 0 for the own one, 1 for the
+ * other. Stack: 768 bytes. */
+struct skut_table_answer skut_extend_from(struct skut_state state, uint64_t *seqs, size_t seqs_len, int64_t *secs, size_t secs_len,
+                                          struct skut_state other, const uint64_t *other_seqs, size_t other_seqs_len,
+                                          const int64_t *other_secs, size_t other_secs_len);
+
+/* The second of a sequence. a is 1, and b the second by its 64 bits; or a is 0, and there is none. A `round` of 0 takes, where no sequence is
+ * equal, the next greater one, any other the next smaller one. Stack: 384 bytes. */
+struct skut_answer skut_find_ts(struct skut_state state, const uint64_t *seqs, size_t seqs_len, const int64_t *secs, size_t secs_len, uint64_t seq, uint32_t round);
+
+/* The sequence of a second, likewise: a is 1 and b the sequence, or a is 0. Stack: 384 bytes. */
+struct skut_answer skut_find_seq(struct skut_state state, const uint64_t *seqs, size_t seqs_len, const int64_t *secs, size_t secs_len, int64_t sec, uint32_t round);
+
+/* Writes the table's image, and a is its length: 21. An image of n pairs has at most 9n + 21 bytes. The bytes are those that slatedb writes, also where
+ * they read back as other pairs. Stack: 640 bytes. */
+struct skut_answer skut_save(struct skut_state state, const uint64_t *seqs, size_t seqs_len, const int64_t *secs, size_t secs_len, uint8_t *out, size_t out_len);
+
+/* The same, but an image that would read back as other pairs is refused: 20, 21. Stack: 640 bytes. */
+struct skut_answer skut_save_strict(struct skut_state state, const uint64_t *seqs, size_t seqs_len, const int64_t *secs, size_t secs_len, uint8_t *out, size_t out_len);
+
+/* The table of an image, of capacity 8,192 and interval 60, its pairs in arrays of at least 8,192 places: 14, 1 to 10, 11 to 13. Bytes after the
+ * image are ignored. Stack: 133,120 bytes. */
+struct skut_table_answer skut_restore(const uint8_t *bytes, size_t bytes_len, uint64_t *seqs, size_t seqs_len, int64_t *secs, size_t secs_len);
+
+/* ---- Images of two arrays, with no table */
+
+/* The length of the image, in a: 18, 19. Stack: 256 bytes. */
+struct skut_answer skut_encoded_len(const uint64_t *seqs, size_t seqs_len, const int64_t *secs, size_t secs_len);
+
+/* Writes the image, and a is its length: 18, 19, 21. Stack: 512 bytes. */
+struct skut_answer skut_encode(const uint64_t *seqs, size_t seqs_len, const int64_t *secs, size_t secs_len, uint8_t *out, size_t out_len);
+
+/* The same, but an image that would read back as other values is refused: 18, 19, 20, 21. Stack: 640 bytes. */
+struct skut_answer skut_encode_strict(const uint64_t *seqs, size_t seqs_len, const int64_t *secs, size_t secs_len, uint8_t *out, size_t out_len);
+
+/* Fills two arrays, and a is the number of pairs: 1 to 10. Places from that number on keep what they held. Stack: 1,024 bytes. */
+struct skut_answer skut_decode(const uint8_t *bytes, size_t bytes_len, uint64_t *seqs, size_t seqs_len, int64_t *secs, size_t secs_len);
+
+/* The length of the image at the start of the bytes, in a: 1 to 9. Stack: 768 bytes. */
+struct skut_answer skut_image_len(const uint8_t *bytes, size_t bytes_len);
+
+/* ---- Bits, the most significant first. A place is a byte and a bit of it; one past the end counts as the end. */
+
+/* The low `bits` bits of a value as a signed number, by its 64 bits in a: 23. Stack: 256 bytes. */
+struct skut_answer skut_sign_extend(uint32_t val, uint8_t bits);
+
+/* Reads 0 to 64 bits: the value in a, the place after them in b and c: 23, 24. Stack: 256 bytes. */
+struct skut_answer skut_read_bits(const uint8_t *s, size_t s_len, size_t byte, uint8_t bit, uint8_t width);
+
+/* Writes the low 0 to 64 bits of a value: the place after them in a and b: 23, 21. Stack: 256 bytes. */
+struct skut_answer skut_write_bits(uint8_t *buf, size_t buf_len, size_t byte, uint8_t bit, uint64_t value, uint8_t width);
+
+#ifdef __cplusplus
+}
+#endif
+#endif

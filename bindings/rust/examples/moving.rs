@@ -1,0 +1,23 @@
+// Before: use slatedb::seq_tracker::{FindOption, SequenceTracker, TrackedSeq};
+use skutlaneb::{FindOption, Second, Seq, SequenceTracker, TrackedSeq};
+
+fn main() -> Result<(), Box<dyn std::error::Error>> {
+    let mut tracker = SequenceTracker::new();
+    for (seq, second) in [(100, 0), (164, 60), (230, 125)] {
+        // Where slatedb's `insert` panics, this one answers an error.
+        tracker.insert(TrackedSeq { seq: Seq(seq), ts: Second(second) })?;
+    }
+
+    // `to_bytes` writes the same bytes as slatedb. `to_bytes_strict` does, too, but refuses a table that they would bring back as another one.
+    let stored = tracker.to_bytes_strict()?;
+    let restored = SequenceTracker::from_bytes(&stored)?;
+    if let Some(second) = restored.find_ts(200, FindOption::RoundDown)? {
+        println!("sequence 200 was written in second {second} or later");
+    }
+
+    // Damaged bytes are refused, with the number of the list of refusals and a sentence.
+    if let Err(error) = SequenceTracker::from_bytes(&stored[..stored.len() - 1]) {
+        println!("refused {}: {error}", error.number());
+    }
+    Ok(())
+}

@@ -1,0 +1,195 @@
+//! Refusals, by document 01's numbers.
+use crate::sys::Answer;
+use std::fmt;
+
+/// One of the two arrays of an image.
+#[derive(Clone, Copy, Debug, PartialEq, Eq)]
+pub enum Array {
+    /// The sequence numbers.
+    Sequences,
+    /// The seconds.
+    Seconds,
+}
+
+impl Array {
+    fn of(number: u64) -> Array {
+        if number == 0 {
+            Array::Sequences
+        } else {
+            Array::Seconds
+        }
+    }
+}
+
+impl fmt::Display for Array {
+    fn fmt(&self, f: &mut fmt::Formatter<'_>) -> fmt::Result {
+        f.write_str(match self {
+            Array::Sequences => "sequences",
+            Array::Seconds => "seconds",
+        })
+    }
+}
+
+/// Why a call was refused: document 01's number, with what it also tells. `array` says which of the two it was, and `index`, counted
+/// from 0, at which of its values.
+#[derive(Clone, Copy, Debug, PartialEq, Eq)]
+#[non_exhaustive]
+pub enum Error {
+    /// 1: the input is empty.
+    Empty,
+    /// 2: the first byte is not 1, the version.
+    Version { byte: u8 },
+    /// 3: the input has fewer than 5 bytes.
+    HeaderCut,
+    /// 4: the input ends in an array's count.
+    CountCut { array: Array },
+    /// 5: the input ends in an array's first value.
+    FirstCut { array: Array },
+    /// 6: the input ends before a code.
+    CodeMissing { array: Array, index: u64 },
+    /// 7: the input ends in a code's prefix.
+    PrefixCut { array: Array, index: u64 },
+    /// 8: the input ends in a code's difference, of so many bits.
+    DifferenceCut { array: Array, index: u64, width: u64 },
+    /// 9: an array's count is not the header's.
+    CountDiffers { array: Array },
+    /// 10: an array has more values than there is room for.
+    TooManyPairs { array: Array },
+    /// 11: a sequence is below the one before it.
+    SequenceDrops { index: u64 },
+    /// 12: a second is below the one before it.
+    SecondDrops { index: u64 },
+    /// 13: a second is outside the years 0001 to 9999.
+    SecondOutside { index: u64 },
+    /// 14: a table's state and its arrays do not fit together.
+    StateDisagrees,
+    /// 15: the capacity is above 8,192 or the interval above 2^63-1.
+    Settings,
+    /// 16: the offered second is outside the years 0001 to 9999.
+    OfferedOutside,
+    /// 17: the offered sequence is below the last kept one.
+    OfferedDrops,
+    /// 18: the two arrays to encode differ in length.
+    LengthsDiffer,
+    /// 19: each array to encode has more than 65,536 values.
+    TooManyValues,
+    /// 20: saved, the table would read back as other pairs: a difference of deltas is outside -2^31..2^31-1.
+    Wide { array: Array, index: u64 },
+    /// 21: the output is too short, and the bytes that it would have to have.
+    Room { bytes: u64 },
+    /// 22: a program's input is above 16,384 bytes.
+    InputTooLong,
+    /// 23: a bit width is above 64, or outside 1..32 in sign extension.
+    Width,
+    /// 24: fewer bits are left than asked for.
+    BitsShort,
+    /// A number that is not on the list: the library is not the one that this crate was written for.
+    Unlisted { number: u32 },
+}
+
+impl Error {
+    /// Document 01's number.
+    pub fn number(&self) -> u32 {
+        match *self {
+            Error::Empty => 1,
+            Error::Version { .. } => 2,
+            Error::HeaderCut => 3,
+            Error::CountCut { .. } => 4,
+            Error::FirstCut { .. } => 5,
+            Error::CodeMissing { .. } => 6,
+            Error::PrefixCut { .. } => 7,
+            Error::DifferenceCut { .. } => 8,
+            Error::CountDiffers { .. } => 9,
+            Error::TooManyPairs { .. } => 10,
+            Error::SequenceDrops { .. } => 11,
+            Error::SecondDrops { .. } => 12,
+            Error::SecondOutside { .. } => 13,
+            Error::StateDisagrees => 14,
+            Error::Settings => 15,
+            Error::OfferedOutside => 16,
+            Error::OfferedDrops => 17,
+            Error::LengthsDiffer => 18,
+            Error::TooManyValues => 19,
+            Error::Wide { .. } => 20,
+            Error::Room { .. } => 21,
+            Error::InputTooLong => 22,
+            Error::Width => 23,
+            Error::BitsShort => 24,
+            Error::Unlisted { number } => number,
+        }
+    }
+
+    /// The refusal that an answer of [`crate::sys`] tells, or none where the call was not refused.
+    pub fn of(answer: &Answer) -> Option<Error> {
+        let (array, index) = (Array::of(answer.a), answer.b);
+        Some(match answer.number {
+            0 => return None,
+            1 => Error::Empty,
+            2 => Error::Version { byte: answer.a as u8 },
+            3 => Error::HeaderCut,
+            4 => Error::CountCut { array },
+            5 => Error::FirstCut { array },
+            6 => Error::CodeMissing { array, index },
+            7 => Error::PrefixCut { array, index },
+            8 => Error::DifferenceCut { array, index, width: answer.c },
+            9 => Error::CountDiffers { array },
+            10 => Error::TooManyPairs { array },
+            11 => Error::SequenceDrops { index: answer.a },
+            12 => Error::SecondDrops { index: answer.a },
+            13 => Error::SecondOutside { index: answer.a },
+            14 => Error::StateDisagrees,
+            15 => Error::Settings,
+            16 => Error::OfferedOutside,
+            17 => Error::OfferedDrops,
+            18 => Error::LengthsDiffer,
+            19 => Error::TooManyValues,
+            20 => Error::Wide { array, index },
+            21 => Error::Room { bytes: answer.a },
+            22 => Error::InputTooLong,
+            23 => Error::Width,
+            24 => Error::BitsShort,
+            number => Error::Unlisted { number },
+        })
+    }
+}
+
+impl fmt::Display for Error {
+    fn fmt(&self, f: &mut fmt::Formatter<'_>) -> fmt::Result {
+        match self {
+            Error::Empty => f.write_str("there are no bytes to read a table from"),
+            Error::Version { byte } => write!(f, "the bytes start with version {byte}, and only version 1 is known"),
+            Error::HeaderCut => f.write_str("the bytes end within the header, which has 5 bytes"),
+            Error::CountCut { array } => write!(f, "the bytes end within the count of the {array}"),
+            Error::FirstCut { array } => write!(f, "the bytes end within the first of the {array}"),
+            Error::CodeMissing { array, index } => write!(f, "the bytes end before value {index} of the {array}"),
+            Error::PrefixCut { array, index } => write!(f, "the bytes end within the prefix of value {index} of the {array}"),
+            Error::DifferenceCut { array, index, width } => {
+                write!(f, "the bytes end within the {width} bits of value {index} of the {array}")
+            }
+            Error::CountDiffers { array } => write!(f, "the {array} are not as many as the header says"),
+            Error::TooManyPairs { array } => write!(f, "the {array} are more than there is room for"),
+            Error::SequenceDrops { index } => write!(f, "sequence {index} is below the one before it"),
+            Error::SecondDrops { index } => write!(f, "second {index} is below the one before it"),
+            Error::SecondOutside { index } => write!(f, "second {index} is outside the years 0001 to 9999"),
+            Error::StateDisagrees => f.write_str("the table's state and its pairs do not fit together"),
+            Error::Settings => f.write_str("the capacity is above 8,192 or the interval above 2^63-1 seconds"),
+            Error::OfferedOutside => f.write_str("the second is outside the years 0001 to 9999"),
+            Error::OfferedDrops => f.write_str("the sequence number is below the last one that the table keeps"),
+            Error::LengthsDiffer => f.write_str("there are not as many seconds as sequences"),
+            Error::TooManyValues => f.write_str("there are more than 65,536 values to encode"),
+            Error::Wide { array, index } => write!(
+                f,
+                "saved, the table would read back as other pairs: value {index} of the {array} is too far from where the two before it lead"
+            ),
+            Error::Room { bytes } => write!(f, "the output is too short: {bytes} bytes are needed"),
+            Error::InputTooLong => f.write_str("the input has more than 16,384 bytes"),
+            Error::Width => f.write_str("so many bits cannot be read, written or extended at once"),
+            Error::BitsShort => f.write_str("fewer bits are left than were asked for"),
+            Error::Unlisted { number } => {
+                write!(f, "the library answered {number}, which this crate does not know: the two are of different versions")
+            }
+        }
+    }
+}
+
+impl std::error::Error for Error {}

@@ -1,0 +1,32 @@
+//! Which second does a stored sequence number belong to? slatedb's `SequenceTracker`, over a library of which every function is
+//! proved: a table cannot come back from storage other than it was saved without an error.
+//!
+//! ```no_run
+//! use skutlaneb::{FindOption, Second, Seq, SequenceTracker, TrackedSeq};
+//!
+//! # fn main() -> Result<(), Box<dyn std::error::Error>> {
+//! let mut tracker = SequenceTracker::new();
+//! tracker.insert(TrackedSeq { seq: Seq(100), ts: Second(0) })?;
+//! tracker.insert(TrackedSeq { seq: Seq(164), ts: Second(60) })?;
+//! let stored = tracker.to_bytes_strict()?;
+//! let restored = SequenceTracker::from_bytes(&stored)?;
+//! assert_eq!(restored.find_ts(Seq(150), FindOption::RoundDown)?, Some(Second(0)));
+//! # Ok(())
+//! # }
+//! ```
+//!
+//! What slatedb panics at or answers in silence is an [`Error`] here, with the number of the project's list of refusals. A refused call leaves the table as it
+//! was; [`SequenceTracker::insert_all`] and [`SequenceTracker::extend_from`] keep the pairs before the refused one.
+//!
+//! The library is `libexports.a`, for x86-64; `rt staticlib exports` in the project's folder writes it. Calls use no heap; this crate
+//! owns the arrays that it lends them.
+mod error;
+mod lists;
+pub mod sys;
+mod tracker;
+mod values;
+
+pub use error::{Array, Error};
+pub use lists::{ListError, Tally};
+pub use tracker::{FindOption, Inserted, SequenceTracker};
+pub use values::{Second, Seq, TrackedSeq};

@@ -1,0 +1,60 @@
+//! The static library's functions as they are, for what the tracker does not offer: images of two arrays, and bits.
+//! `bindings/c/skutlaneb.h` says of each what it gives and which numbers refuse it.
+//!
+//! A slice crosses as a pointer and a length. No number makes a call misread; the caller answers for the memory that the pointers
+//! and lengths name, and that what is written to overlaps nothing else of the same call.
+
+/// Number 0 and the values that a call gives, or the number of its refusal and what that also tells.
+#[repr(C)]
+#[derive(Clone, Copy, Debug, PartialEq, Eq)]
+pub struct Answer {
+    pub number: u32,
+    pub a: u64,
+    pub b: u64,
+    pub c: u64,
+}
+
+/// A table's state, as calls return it and take it.
+#[repr(C)]
+#[derive(Clone, Copy, Debug, PartialEq, Eq)]
+pub struct State {
+    pub count: usize,
+    pub capacity: u32,
+    pub has_last: u32,
+    pub interval_secs: u64,
+    pub last: i64,
+}
+
+/// The answer of a call that returns a state.
+#[repr(C)]
+#[derive(Clone, Copy, Debug, PartialEq, Eq)]
+pub struct TableAnswer {
+    pub answer: Answer,
+    pub recorded: u64,
+    pub skipped: u64,
+    pub state: State,
+}
+
+#[link(name = "exports", kind = "static")]
+#[rustfmt::skip]
+extern "C" {
+    pub fn skut_new() -> TableAnswer;
+    pub fn skut_with_config(capacity: u32, interval_secs: u64) -> TableAnswer;
+    pub fn skut_check(state: State, seqs: *const u64, n: usize, secs: *const i64, m: usize) -> Answer;
+    pub fn skut_offer(state: State, seqs: *mut u64, n: usize, secs: *mut i64, m: usize, seq: u64, sec: i64) -> TableAnswer;
+    pub fn skut_offer_pairs(state: State, seqs: *mut u64, n: usize, secs: *mut i64, m: usize, from_seqs: *const u64, i: usize, from_secs: *const i64, j: usize) -> TableAnswer;
+    pub fn skut_extend_from(state: State, seqs: *mut u64, n: usize, secs: *mut i64, m: usize, other: State, other_seqs: *const u64, i: usize, other_secs: *const i64, j: usize) -> TableAnswer;
+    pub fn skut_find_ts(state: State, seqs: *const u64, n: usize, secs: *const i64, m: usize, seq: u64, round: u32) -> Answer;
+    pub fn skut_find_seq(state: State, seqs: *const u64, n: usize, secs: *const i64, m: usize, sec: i64, round: u32) -> Answer;
+    pub fn skut_save(state: State, seqs: *const u64, n: usize, secs: *const i64, m: usize, out: *mut u8, k: usize) -> Answer;
+    pub fn skut_save_strict(state: State, seqs: *const u64, n: usize, secs: *const i64, m: usize, out: *mut u8, k: usize) -> Answer;
+    pub fn skut_restore(bytes: *const u8, k: usize, seqs: *mut u64, n: usize, secs: *mut i64, m: usize) -> TableAnswer;
+    pub fn skut_encoded_len(seqs: *const u64, n: usize, secs: *const i64, m: usize) -> Answer;
+    pub fn skut_encode(seqs: *const u64, n: usize, secs: *const i64, m: usize, out: *mut u8, k: usize) -> Answer;
+    pub fn skut_encode_strict(seqs: *const u64, n: usize, secs: *const i64, m: usize, out: *mut u8, k: usize) -> Answer;
+    pub fn skut_decode(bytes: *const u8, k: usize, seqs: *mut u64, n: usize, secs: *mut i64, m: usize) -> Answer;
+    pub fn skut_image_len(bytes: *const u8, k: usize) -> Answer;
+    pub fn skut_sign_extend(val: u32, bits: u8) -> Answer;
+    pub fn skut_read_bits(s: *const u8, n: usize, byte: usize, bit: u8, width: u8) -> Answer;
+    pub fn skut_write_bits(buf: *mut u8, n: usize, byte: usize, bit: u8, value: u64, width: u8) -> Answer;
+}

@@ -1,0 +1,69 @@
+//! Lists of offers.
+use crate::tables::{kept, pair, table};
+use crate::Case;
+use skutlaneb::{Error, ListError, SequenceTracker, Tally};
+
+pub const CASES: &[Case] = &[
+    ("a list gives what its pairs give one by one", as_one_by_one),
+    ("a list stops at the pair that is refused and keeps those before it", stopped),
+    ("an empty list does nothing", empty),
+    ("another table's pairs are offered in order", extended),
+    ("a list's refusal says what is kept", sentences),
+];
+
+fn as_one_by_one() {
+    let pairs: Vec<_> = (0..20_000u64).map(|i| pair(i * i, (i * 7) as i64)).collect();
+    let (mut listed, mut single) = (SequenceTracker::with_config(1000, 20).unwrap(), SequenceTracker::with_config(1000, 20).unwrap());
+    let mut tally = Tally { recorded: 0, skipped: 0 };
+    for &pair in &pairs {
+        match single.insert(pair).unwrap() {
+            skutlaneb::Inserted::Recorded => tally.recorded += 1,
+            skutlaneb::Inserted::Skipped => tally.skipped += 1,
+        }
+    }
+    assert_eq!(listed.insert_all(&pairs), Ok(tally));
+    assert_eq!(tally.recorded + tally.skipped, 20_000);
+    assert_eq!(listed, single);
+    assert_eq!(listed.last_recorded(), single.last_recorded());
+}
+
+fn stopped() {
+    let mut tracker = SequenceTracker::with_config(8, 10).unwrap();
+    let refused = tracker.insert_all(&[pair(5, 0), pair(6, 9), pair(7, 10), pair(6, 20), pair(8, 30)]);
+    assert_eq!(refused, Err(ListError::Stopped { at: 3, why: Error::OfferedDrops, before: Tally { recorded: 2, skipped: 1 } }));
+    assert_eq!(kept(&tracker), [(5, 0), (7, 10)]);
+    let refused = tracker.insert_all(&[pair(9, i64::MAX)]);
+    assert_eq!(refused, Err(ListError::Stopped { at: 0, why: Error::OfferedOutside, before: Tally { recorded: 0, skipped: 0 } }));
+    assert_eq!(kept(&tracker), [(5, 0), (7, 10)]);
+}
+
+fn empty() {
+    let mut tracker = table(8, 0, &[(5, 0)]);
+    assert_eq!(tracker.insert_all(&[]), Ok(Tally { recorded: 0, skipped: 0 }));
+    assert_eq!(tracker.extend_from(&SequenceTracker::new()), Ok(Tally { recorded: 0, skipped: 0 }));
+    assert_eq!(kept(&tracker), [(5, 0)]);
+}
+
+fn extended() {
+    let other = table(8, 0, &[(1, 10), (2, 20), (3, 30)]);
+    let mut tracker = table(8, 15, &[(2, 5)]);
+    assert_eq!(tracker.extend_from(&other), Ok(Tally { recorded: 1, skipped: 2 }));
+    assert_eq!(kept(&tracker), [(2, 5), (2, 20)]);
+    let mut tracker = table(8, 0, &[(2, 5)]);
+    assert_eq!(tracker.extend_from(&other), Err(ListError::Stopped { at: 0, why: Error::OfferedDrops, before: Tally { recorded: 0, skipped: 0 } }));
+    // By its own pairs: those before the last recorded second are skipped, and the last one is recorded again.
+    let mut twice = other.clone();
+    assert_eq!(twice.extend_from(&other), Ok(Tally { recorded: 1, skipped: 2 }));
+}
+
+fn sentences() {
+    let mut tracker = table(8, 0, &[(5, 0)]);
+    let refused = tracker.insert_all(&[pair(6, 1), pair(4, 2)]).unwrap_err();
+    assert_eq!(
+        refused.to_string(),
+        "pair 1 is refused, and those before it are kept: the sequence number is below the last one that the table keeps"
+    );
+    let own = ListError::Own(Error::StateDisagrees).to_string();
+    let other = ListError::Other(Error::StateDisagrees).to_string();
+    assert!(own != other && other.contains("other table"));
+}
