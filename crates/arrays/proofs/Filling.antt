@@ -1,7 +1,7 @@
 -- Values stored one after the other. Assumes nothing.
 use Prim.Native.Nat.{ℕ, suc, _+_, _-_, _≤_}
 use mathlib.Core.Path.{_≡_, refl, sym, ap, _∙_}
-use mathlib.Core.Bool.{Bool, true, false}
+use mathlib.Core.Bool.{true}
 use mathlib.Core.List.{List, [], _∷_, _++_, map}
 use native.Mathlib.Nat.{zero-add}
 use native.Mathlib.Numerals.{add-one}
@@ -11,6 +11,7 @@ use lib.ListN.{length, set, drop, length-map}
 use lib.Seq.{sets, sets-eq}
 use Rattle.bits.specs.Over.{over}
 use Rattle.bits.specs.declared.Place.{Place}
+use Rattle.bits.proofs.Signs.{never}
 use Rattle.gorilla.specs.Parser.{Read, read, refused, andThen, isRead, readOr}
 use Rattle.gorilla.specs.Places.{bitsFrom}
 use Rattle.gorilla.specs.Reading.{readCode, readCodes, valuesAfter}
@@ -39,10 +40,7 @@ module _ {A : Type 0} (f : ℤ → A) where
   next : (out : List A) (i : ℕ) (t : Track) (d : ℤ) (q : Read (List ℤ)) → isRead (andThen q (λ ds r. read (d ∷ ds) r)) ≡ true → Next out i t d (andThen q (λ ds r. read (d ∷ ds) r)) q
   unfolding Next valuesAfter
   next out i t d (read ds bs) h = (refl, rw (add-one i))
-  next out i t d (refused l) h = let z : _≡_ {A = Bool} false true = h in absurd (no-conf z)
-    where
-      no-conf : false ≡ true → ⊥
-      no-conf e = let z : _≡_ {A = ℕ} 0 1 = cc in omega arith
+  next out i t d (refused l) h = never h
 
   pub fill-next : (a : ℕ) (out : List A) (i k : ℕ) (t : Track) (bs : List ℕ) {d : ℤ} {q : List ℕ} → read d q ≡ readCode a i bs → isRead (readCodes a (suc k) i bs) ≡ true
       → (isRead (readCodes a k (i + 1) q) ≡ true)
@@ -74,4 +72,4 @@ first-there a i k bs h = go (readCode a i bs) h
 
 -- what is there is not refused
 pub there-not : {X : Type 0} (r : Read ℤ) {l : List ℕ} → refused l ≡ r → isRead r ≡ true → X
-there-not r h e = let f : false ≡ true = ap isRead h ∙ e in let z : _≡_ {A = ℕ} 0 1 = cc in absurd (omega arith)
+there-not r h e = never (ap isRead h ∙ e)

@@ -1,20 +1,18 @@
 -- A code in a window of 64 bits. Assumes nothing.
 use Prim.Native.Nat.{ℕ, zero, suc, _+_, _-_, _*_, _/_, _%_, _^_, _≤_, _<_, min}
-use mathlib.Core.Path.{_≡_, refl, sym, ap, ap₂, _∙_, subst}
-use mathlib.Core.Bool.{Bool, true, false}
+use mathlib.Core.Path.{_≡_, sym, ap, ap₂, _∙_}
 use mathlib.Core.List.{List, [], _∷_}
 use native.Mathlib.Nat.{add-zero, zero-add}
 use native.Mathlib.Omega.{arith}
-use borrow.Author.Tests.{ltb-true, ltb-false}
 use lib.Arith.{digits-div, digits-mod}
-use lib.Dec.{ltb}
 use lib.IntN.{ℤ}
 use lib.ListN.{length, drop, getD}
-use Rattle.bits.specs.Bits.{bitsAt}
+use lib.Pow.{pow-mono}
+use Rattle.bits.specs.Bits.{bitAt, bitsAt}
 use Rattle.bits.specs.Place.{posOf, placeOf}
 use Rattle.bits.specs.declared.Place.{Place}
 use Rattle.bits.proofs.Answers.{pos-place}
-use Rattle.bits.proofs.Bits.{bitsAt-add, bitsAt-lt}
+use Rattle.bits.proofs.Bits.{bitAt-lt, bitsAt-add, bitsAt-lt}
 use Rattle.gorilla.specs.BitList.{bitsOf}
 use Rattle.gorilla.specs.Parser.{read}
 use Rattle.gorilla.specs.Places.{bitsFrom}
@@ -22,6 +20,8 @@ use Rattle.gorilla.specs.Reading.{countOnes, readCode}
 use Rattle.gorilla.specs.Rows.{widths, decoded}
 use Rattle.gorilla.proofs.Bridge.{take-at}
 use Rattle.gorilla.proofs.Readers.{at-zero, at-one, code-read, width-most}
+use Rattle.arrays.specs.Steps.{InWindow, NearCode}
+use Rattle.arrays.specs.declared.code.Near.{Near}
 use Rattle.arrays.proofs.Runs.{pos-at}
 
 -- n bits of the window that starts at byte b
@@ -33,15 +33,38 @@ in-window s b j n h =
     ∙ ap (λ (u : ℕ). u % 2 ^ n) (digits-div (bitsAt s (b * 8) (j + n)) (bitsAt-lt s (b * 8 + (j + n)) c))
     ∙ ap (λ (u : ℕ). u % 2 ^ n) (bitsAt-add s (b * 8) j n) ∙ digits-mod (bitsAt s (b * 8) j) (bitsAt-lt s (b * 8 + j) n)
 
-pub below-next : (P : ℕ → Type 0) (n : ℕ) → ((j : ℕ) → j < n → P j) → P n → (j : ℕ) → j < n + 1 → P j
-below-next P n f p j h = go (ltb j n) refl
-  where
-    go : (t : Bool) → ltb j n ≡ t → P j
-    go true e = f j (ltb-true j n e)
-    go false e = let q : n ≡ j = omega (arith, ltb-false j n e, h) in subst P q p
+-- what holds of each number below four
+below-4 : (P : ℕ → Type 0) → P 0 → P 1 → P 2 → P 3 → (j : ℕ) → j < 4 → P j
+below-4 P a b c d zero h = a
+below-4 P a b c d (suc zero) h = b
+below-4 P a b c d (suc (suc zero)) h = c
+below-4 P a b c d (suc (suc (suc zero))) h = d
+below-4 P a b c d (suc (suc (suc (suc j)))) h = absurd (omega (arith, h))
 
-pub odd : (x : ℕ) → (x % 2 ≡ 0 → ⊥) → x % 2 ≡ 1
-odd x h = omega (arith, h)
+-- the four bits that a number is
+module _ (s : List ℕ) (p x : ℕ) (e : x ≡ bitsAt s p 4) where
+  Four : Type 0
+  Four = (x ≡ bitAt s (p + 0) * 8 + bitAt s (p + 1) * 4 + bitAt s (p + 2) * 2 + bitAt s (p + 3))
+      × (bitAt s (p + 0) < 2) × (bitAt s (p + 1) < 2) × (bitAt s (p + 2) < 2) × (bitAt s (p + 3) < 2)
+
+  four : Four
+  unfolding bitsAt Four
+  four = (omega (arith, e), bitAt-lt s (p + 0), bitAt-lt s (p + 1), bitAt-lt s (p + 2), bitAt-lt s (p + 3))
+
+  -- the more ones it has from the top on, the closer it is to 16
+  top-ones : (n : ℕ) → n ≤ 4 → 16 ≤ x + 2 ^ (4 - n) → (j : ℕ) → j < n → bitAt s (p + j) ≡ 1
+  unfolding Four
+  top-ones n h k j l =
+      let w : 2 ^ (4 - n) ≤ 2 ^ (3 - j) = pow-mono (omega arith) in
+      below-4 (λ (u : ℕ). 16 ≤ x + 2 ^ (3 - u) → bitAt s (p + u) ≡ 1)
+      (λ m. omega (arith, four)) (λ m. omega (arith, four)) (λ m. omega (arith, four)) (λ m. omega (arith, four)) j (omega arith) (omega arith)
+
+  -- the bit after them
+  top-zero : (n : ℕ) → 16 ≤ x + 2 ^ (4 - n) → n < 4 → x + 2 ^ (3 - n) < 16 → bitAt s (p + n) ≡ 0
+  unfolding Four
+  top-zero n k h m =
+      below-4 (λ (u : ℕ). 16 ≤ x + 2 ^ (4 - u) → x + 2 ^ (3 - u) < 16 → bitAt s (p + u) ≡ 0)
+      (λ k m. omega (arith, four)) (λ k m. omega (arith, four)) (λ k m. omega (arith, four)) (λ k m. omega (arith, four)) n h k m
 
 -- m ones, and a zero where they are fewer than k
 pub ones-at : (s : List ℕ) (a i m k n p : ℕ) → m ≤ k → p + min (m + 1) k ≤ length s * 8 → ((j : ℕ) → j < m → bitsAt s (p + j) 1 ≡ 1) → (m < k → bitsAt s (p + m) 1 ≡ 0)
@@ -70,21 +93,21 @@ near-code s a i m p h l f g =
     code-read a i m (drop p (bitsOf s)) (sym (ones-at s a i m 4 0 p h (omega arith) f g ∙ ap (λ (u : ℕ). read u (drop (p + min (m + 1) 4) (bitsOf s))) (zero-add m)))
     (take-at (8 ∷ a ∷ i ∷ getD widths m 0 ∷ []) s (getD widths m 0) (p + min (m + 1) 4) l)
 
-bit-near : (s : List ℕ) (b r j w : ℕ) → w ≡ bitsAt s (b * 8) 64 → r + j < 64 → bitsAt s (b * 8 + r + j) 1 ≡ w / 2 ^ (63 - (r + j)) % 2
-bit-near s b r j w e h =
-    let f : 64 - (r + j + 1) ≡ 63 - (r + j) = omega arith in
-    let g : b * 8 + (r + j) ≡ b * 8 + r + j = omega arith in
-    sym (ap₂ (λ (u v : ℕ). u / 2 ^ v % 2) e (sym f) ∙ in-window s b (r + j) 1 (omega arith) ∙ ap (λ (u : ℕ). bitsAt s u 1) g)
+-- a bit as a number of one bit
+one-bit : (s : List ℕ) (p : ℕ) → bitsAt s p 1 ≡ bitAt s p
+unfolding bitsAt
+one-bit s p = ap (λ (u : ℕ). 0 * 2 + bitAt s u) (add-zero p) ∙ omega arith
 
-pub near-told : (s : List ℕ) (at q : Place) (a i n word v w t : ℕ) {d : ℤ} → at .bit < 8 → at .byte + 8 ≤ length s → word ≡ bitsAt s (at .byte * 8) 64 → n ≤ 4
-    → ((j : ℕ) → j < n → word / 2 ^ (63 - (at .bit + j)) % 2 ≡ 1) → (n < 4 → word / 2 ^ (63 - (at .bit + n)) % 2 ≡ 0)
-    → w ≡ getD widths n 0 → t ≡ min (n + 1) 4 + w → v ≡ word / 2 ^ (64 - (at .bit + t)) % 2 ^ w → d ≡ decoded w v → q ≡ placeOf (at .byte * 8 + at .bit + t)
-    → read d (bitsFrom s q) ≡ readCode a i (bitsFrom s at)
+-- x is the first four bits of a code of n ones
+pub near-told : (s : List ℕ) (at : Place) (n word x : ℕ) (k : Near) → at .bit < 8 → at .byte + 8 ≤ length s → word ≡ bitsAt s (at .byte * 8) 64
+    → x ≡ word / 2 ^ (60 - at .bit) % 2 ^ 4 → n ≤ 4 → 16 ≤ x + 2 ^ (4 - n) → (n < 4 → x + 2 ^ (3 - n) < 16) → InWindow word (at .bit) n k → NearCode s at k
 unfolding bitsFrom
-near-told s at q a i n word v w t {d} hb hl ew hn f g ww tt' ev ed eq =
+near-told s at n word x k hb hl ew ex hn f g row =
     let b : ℕ = at .byte in
     let r : ℕ = at .bit in
     let p : ℕ = b * 8 + r in
+    let t : ℕ = k .bits in
+    let et : t ≡ min (n + 1) 4 + getD widths n 0 = row .0 in
     let U : ℕ = min (n + 1) 4 in
     let W : ℕ = getD widths n 0 in
     let wm : W ≤ 32 = width-most n in
@@ -92,12 +115,15 @@ near-told s at q a i n word v w t {d} hb hl ew hn f g ww tt' ev ed eq =
     let l : p + U + W ≤ length s * 8 = omega arith in
     let h0 : posOf (length s) at ≡ p = pos-at (length s) b r hb (omega arith) in
     let tu : p + t ≡ p + U + W = omega arith in
-    let h1 : posOf (length s) q ≡ p + U + W = ap (posOf (length s)) eq ∙ pos-place (length s) (p + t) (omega arith) ∙ tu in
-    let x : 64 - (r + t) ≡ 64 - (r + U + W) = omega arith in
+    let h1 : posOf (length s) (placeOf (p + t)) ≡ p + U + W = pos-place (length s) (p + t) (omega arith) ∙ tu in
+    let k4 : 60 - r ≡ 64 - (r + 4) = omega arith in
+    let xs : x ≡ bitsAt s p 4 = ex ∙ ap₂ (λ (u z : ℕ). u / 2 ^ z % 2 ^ 4) ew k4 ∙ in-window s b r 4 (omega arith) in
+    let kt : 64 - (r + t) ≡ 64 - (r + U + W) = omega arith in
     let y : b * 8 + (r + U) ≡ p + U = omega arith in
-    let vv : v ≡ bitsAt s (p + U) W =
-    ev ∙ ap₂ (λ (u z : ℕ). u / 2 ^ z % 2 ^ w) ew x ∙ ap (λ (u : ℕ). bitsAt s (b * 8) 64 / 2 ^ (64 - (r + U + W)) % 2 ^ u) ww
-    ∙ in-window s b (r + U) W (omega arith) ∙ ap (λ (u : ℕ). bitsAt s u W) y in
-    ap₂ (λ (z : ℤ) (u : ℕ). read z (drop u (bitsOf s))) (ed ∙ ap₂ decoded ww vv) h1
-    ∙ sym (near-code s a i n p hn l (λ j k. bit-near s b r j word ew (omega arith) ∙ f j k) (λ k. bit-near s b r n word ew (omega arith) ∙ g k))
-    ∙ ap (λ (u : ℕ). readCode a i (drop u (bitsOf s))) (sym h0)
+    let vv : word / 2 ^ (64 - (r + t)) % 2 ^ W ≡ bitsAt s (p + U) W =
+    ap₂ (λ (u z : ℕ). u / 2 ^ z % 2 ^ W) ew kt ∙ in-window s b (r + U) W (omega arith) ∙ ap (λ (u : ℕ). bitsAt s u W) y in (
+      omega arith,
+      λ a i. ap₂ (λ (z : ℤ) (u : ℕ). read z (drop u (bitsOf s))) (row .1 ∙ ap (decoded W) vv) h1
+          ∙ sym (near-code s a i n p hn l (λ j l. one-bit s (p + j) ∙ top-ones s p x xs n hn f j l) (λ l. one-bit s (p + n) ∙ top-zero s p x xs n f l (g l)))
+          ∙ ap (λ (u : ℕ). readCode a i (drop u (bitsOf s))) (sym h0),
+    )

@@ -1,11 +1,12 @@
 -- What the steps below the public calls answer. No public statement cites this file.
-use Prim.Native.Nat.{ℕ, zero, suc, _*_, _^_, _≤_, _<_}
+use Prim.Native.Nat.{ℕ, zero, suc, _+_, _-_, _*_, _/_, _%_, _^_, _≤_, _<_, min}
 use mathlib.Core.Path.{_≡_}
 use mathlib.Core.Bool.{Bool, true}
-use mathlib.Core.List.{List, [], _∷_}
+use mathlib.Core.List.{List, [], _∷_, _++_}
 use lib.Dec.{leb}
 use lib.IntN.{ℤ, pos}
-use lib.ListN.{drop, length}
+use lib.ListN.{drop, getD, length, replicate}
+use Rattle.bits.specs.Place.{placeOf}
 use Rattle.bits.specs.declared.Place.{Place}
 use Rattle.gorilla.specs.Array.{arrayNo}
 use Rattle.gorilla.specs.declared.Array.{Array}
@@ -13,12 +14,14 @@ use Rattle.gorilla.specs.BitList.{bitsOf}
 use Rattle.gorilla.specs.Parser.{Read, read, refused, isRead, readOr}
 use Rattle.gorilla.specs.Places.{bitsFrom}
 use Rattle.gorilla.specs.Reading.{readCode, readCodes, valuesAfter}
+use Rattle.gorilla.specs.Rows.{widths, decoded}
 use Rattle.gorilla.specs.Steps.{followed}
 use Rattle.arrays.specs.Refusal.{numbers}
 use Rattle.arrays.specs.declared.prefix.Prefix.{Prefix}
 use Rattle.arrays.specs.declared.prefix.Prefix.the-variants as p
 use Rattle.arrays.specs.declared.code.CodeRead.{CodeRead}
 use Rattle.arrays.specs.declared.code.CodeRead.the-variants as c
+use Rattle.arrays.specs.declared.code.Near.{Near}
 use Rattle.arrays.specs.declared.scan.Scanned.{Scanned}
 use Rattle.arrays.specs.declared.scan.Scanned.the-variants as s
 use Rattle.arrays.specs.declared.array.ArrayScan.{ArrayScan}
@@ -57,11 +60,24 @@ abbrev pub PassedArray : List ℕ → Array → ArrayScan → Type 0
 PassedArray xs a (y.Found n f q e) = passedAt xs (arrayNo a) n q × (e ≤ length xs)
 PassedArray xs a (y.Refused r) = Unit {0}
 
+-- ---- a code that is not cut off
+-- n ones and the difference after them, from a bit of a window of 64 bits on
+abbrev pub InWindow : ℕ → ℕ → ℕ → Near → Type 0
+InWindow word bit n r = (r .bits ≡ min (n + 1) 4 + getD widths n 0) × (r .diff ≡ decoded (getD widths n 0) (word / 2 ^ (64 - (bit + r .bits)) % 2 ^ getD widths n 0))
+
+-- the code at a place, whatever its index
+abbrev pub NearCode : List ℕ → Place → Near → Type 0
+NearCode xs at r = (r .bits ≤ 36) × ((a i : ℕ) → read (r .diff) (bitsFrom xs (placeOf (at .byte * 8 + at .bit + r .bits))) ≡ readCode a i (bitsFrom xs at))
+
 -- ---- what a step asks and gives
 -- a count of 32 bits finds room that is not above max
 abbrev pub Agrees : ℕ → (ℕ → Bool) → Type 0
 Agrees max room = (n : ℕ) → n < 2 ^ 32 → room n ≡ leb n max
 
+-- the bits that a cursor has still to read: the zeros that were found already, and those at its place
+abbrev pub ahead : List ℕ → Cursor → List ℕ
+ahead xs c = replicate (c .zeros) 0 ++ bitsFrom xs (c .at)
+
 -- the code of index i of array a leads from one cursor to the next
 abbrev pub Stepped : List ℕ → ℕ → ℕ → Cursor → Cursor → Type 0
-Stepped xs a i c r = (d : ℤ) × (read d (bitsFrom xs (r .at)) ≡ readCode a i (bitsFrom xs (c .at))) × (r .track ≡ followed (c .track) d)
+Stepped xs a i c r = (d : ℤ) × (read d (ahead xs r) ≡ readCode a i (ahead xs c)) × (r .track ≡ followed (c .track) d)

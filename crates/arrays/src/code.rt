@@ -1,15 +1,15 @@
 // One code: its prefix, and the difference of deltas after it.
 ghost use mathlib.Core.Path.{_≡_};
-ghost use Prim.Native.Nat.{ℕ, _+_, _≤_, _<_};
+ghost use mathlib.Core.Bool.{true};
+ghost use Prim.Native.Nat.{_+_, _≤_, _<_};
 ghost use lib.ListN.{length};
 ghost use Rattle.gorilla.specs.Array.{arrayNo};
 ghost use Rattle.gorilla.specs.Places.{bitsFrom};
 ghost use Rattle.gorilla.specs.Reading.{readCode};
-ghost use Rattle.arrays.specs.Steps.{toldCode};
+ghost use Rattle.arrays.specs.Steps.{toldCode, InWindow, NearCode};
 use crate::Refusal;
 use crate::prefix::Prefix;
 use crate::prefix::leading;
-use crate::prefix::ones_near;
 use crate::prefix::used_of;
 use bits::BitsRead;
 use bits::Place;
@@ -22,7 +22,7 @@ pub enum CodeRead {
 }
 
 // The code of an index, bit by bit: for the last bytes of the input.
-fn read_far(s: &[u8], at: Place, array: Array, index: usize) -> CodeRead
+pub fn read_far(s: &[u8], at: Place, array: Array, index: usize) -> CodeRead
     ensures { λ r. ⌜ toldCode (now (s .entry)) r ≡ readCode (arrayNo array) index (bitsFrom (now (s .entry)) at) ⌝ }
 {
     match leading(s, at, array, index) {
@@ -38,30 +38,51 @@ fn read_far(s: &[u8], at: Place, array: Array, index: usize) -> CodeRead
     }
 }
 
-// The same where eight bytes are there: a code has 36 bits at most, so it is not cut off.
-fn read_near(s: &[u8], at: Place) -> CodeRead
-    requires { ⌜ (at .bit < 8) × (at .byte + 8 ≤ length (now s)) ⌝ }
-    ensures { λ r. ⌜ ((a i : ℕ) → toldCode (now (s .entry)) r ≡ readCode a i (bitsFrom (now (s .entry)) at)) ⌝ }
-{
-    let byte = at.byte;
-    let word = bits::inner::word_at(s, byte);
-    let n = ones_near(word, at.bit);
-    let w = gorilla::inner::width_of(n);
-    let t = used_of(n) + w;
-    let v = bits::inner::field(word, 64 - (at.bit + t), w);
-    CodeRead::Diff(gorilla::inner::diff_of(v, w), bits::inner::after(at, t))
-}
-
-// The code of an index at a place.
-pub fn read_code(s: &[u8], at: Place, array: Array, index: usize) -> CodeRead
-    ensures { λ r. ⌜ toldCode (now (s .entry)) r ≡ readCode (arrayNo array) index (bitsFrom (now (s .entry)) at) ⌝ }
+// Whether eight bytes are there from a place on: a code has 36 bits at most, so it is not cut off.
+pub fn is_near(s: &[u8], at: Place) -> bool
+    ensures { λ r. ⌜ (r ≡ true → (at .bit < 8) × (at .byte + 8 ≤ length (now (s .entry)))) ⌝ }
 {
     if at.bit < 8 {
         if 8 <= s.len() {
-            if at.byte <= s.len() - 8 {
-                return read_near(s, at);
-            }
+            return at.byte <= s.len() - 8;
         }
     }
-    read_far(s, at, array, index)
+    false
+}
+
+// A code that is not cut off: the difference of deltas, and the bits that the code has.
+pub struct Near {
+    pub diff: i64,
+    pub bits: u8,
+}
+
+// The code of a prefix of so many ones, from a bit of a window of 64 bits on.
+fn row_near(word: u64, bit: u8, ones: usize) -> Near
+    requires { ⌜ (bit < 8) × (ones ≤ 4) ⌝ }
+    ensures { λ r. ⌜ InWindow word bit ones r ⌝ }
+{
+    let w = gorilla::inner::width_of(ones);
+    let t = used_of(ones) + w;
+    let v = bits::inner::field(word, 64 - (bit + t), w);
+    Near {
+        diff: gorilla::inner::diff_of(v, w),
+        bits: t,
+    }
+}
+
+// The code at a place that is near, its prefix told by four bits at once. A number of ones that is written out makes
+// the widths constants.
+pub fn read_near(s: &[u8], at: Place) -> Near
+    requires { ⌜ (at .bit < 8) × (at .byte + 8 ≤ length (now s)) ⌝ }
+    ensures { λ r. ⌜ NearCode (now (s .entry)) at r ⌝ }
+{
+    let byte = at.byte;
+    let word = bits::inner::word_at(s, byte);
+    match bits::inner::field(word, 60 - at.bit, 4) {
+        0..=7 => row_near(word, at.bit, 0),
+        8..=11 => row_near(word, at.bit, 1),
+        12..=13 => row_near(word, at.bit, 2),
+        14 => row_near(word, at.bit, 3),
+        _ => row_near(word, at.bit, 4),
+    }
 }

@@ -1,6 +1,6 @@
 // A code's prefix: ones up to the first zero or the fourth one.
 ghost use mathlib.Core.Path.{_≡_};
-ghost use Prim.Native.Nat.{ℕ, _+_, _-_, _/_, _%_, _^_, _≤_, _<_, min};
+ghost use Prim.Native.Nat.{_+_, _≤_, min};
 ghost use Rattle.gorilla.specs.Array.{arrayNo};
 ghost use Rattle.gorilla.specs.Places.{bitsFrom};
 ghost use Rattle.gorilla.specs.Reading.{countOnes};
@@ -46,24 +46,6 @@ pub fn leading(s: &[u8], at: Place, array: Array, index: usize) -> Prefix
         }
     };
     Prefix::Ones(ones, p)
-}
-
-// The ones of a prefix that starts at a bit of a window of 64 bits.
-pub fn ones_near(w: u64, bit: u8) -> usize
-    requires { ⌜ bit < 8 ⌝ }
-    ensures { λ r. ⌜ (r ≤ 4) × ((j : ℕ) → j < r → w / 2 ^ (63 - (bit + j)) % 2 ≡ 1) × (r < 4 → w / 2 ^ (63 - (bit + r)) % 2 ≡ 0) ⌝ }
-{
-    let mut n: usize = 0;
-    let ones = loop {
-        if n == 4 {
-            break n;
-        }
-        if (w >> (63 - (bit + n as u8))) % 2 == 0 {
-            break n;
-        }
-        n += 1;
-    };
-    ones
 }
 
 // The bits of a prefix of so many ones.

@@ -1,15 +1,17 @@
 use native.Mathlib.Omega.{arith}
 use borrow.Author.Needs.{needs}
 use Prim.Native.Nat.{ℕ, suc, _+_, _-_, _≤_}
-use mathlib.Core.Path.{_≡_, refl, sym, ap, _∙_}
+use mathlib.Core.Path.{_≡_, refl, sym, ap, ap₂, _∙_}
 use mathlib.Core.List.{List}
+use lib.IntN.{ℤ}
+use Rattle.bits.specs.declared.Place.{Place}
 use Rattle.gorilla.specs.Array.{arrayNo}
-use Rattle.gorilla.specs.Parser.{Read, shape}
+use Rattle.gorilla.specs.Parser.{Read, read, shape}
 use Rattle.gorilla.specs.Places.{bitsFrom}
-use Rattle.gorilla.specs.Reading.{readCodes}
+use Rattle.gorilla.specs.Reading.{readCode, readCodes}
 use Rattle.gorilla.proofs.Readers.{shape-next, codes-cut}
 use Rattle.arrays.specs.Steps.{toldCode}
-use Rattle.arrays.proofs.Runs.{from-zeros}
+use Rattle.arrays.proofs.Runs.{zeros-codes, zeros-from}
 use Rattle.arrays.proofs.scan.scan.Statement.{statement}
 use Rattle.arrays.proofs.scan.scan.Tie as tie
 
@@ -21,33 +23,38 @@ Inv-loop s count array p₀ i₀ p i =
 abbrev μ-loop : tie.MeasureT-loop
 μ-loop s count array p₀ i₀ p i = count - i
 
-abbrev st-of : tie.After-read-code Inv-loop μ-loop → tie.Start Inv-loop μ-loop
-st-of ar = ar .before .before .before .before .before .before .before
+abbrev st-of : tie.In-loop Inv-loop μ-loop → tie.Start Inv-loop μ-loop
+st-of t = t .before .before .before
 
-abbrev s-of : tie.After-read-code Inv-loop μ-loop → List ℕ
-s-of ar = (st-of ar) .args .s .now
+abbrev s-of : tie.In-loop Inv-loop μ-loop → List ℕ
+s-of t = (st-of t) .args .s .now
 
-abbrev a-of : tie.After-read-code Inv-loop μ-loop → ℕ
-a-of ar = arrayNo ((st-of ar) .args .array)
+abbrev a-of : tie.In-loop Inv-loop μ-loop → ℕ
+a-of t = arrayNo ((st-of t) .args .array)
 
-abbrev i-of : tie.After-read-code Inv-loop μ-loop → ℕ
-i-of ar = ar .before .before .before .before .before .loop .i
+abbrev i-of : tie.In-loop Inv-loop μ-loop → ℕ
+i-of t = t .before .loop .i
 
-abbrev here-of : tie.After-read-code Inv-loop μ-loop → List ℕ
-here-of ar = bitsFrom (s-of ar) (ar .before .before .before .before .before .loop .p)
+abbrev here-of : tie.In-loop Inv-loop μ-loop → List ℕ
+here-of t = bitsFrom (s-of t) (t .before .loop .p)
 
 -- the codes that are left after this one
-abbrev k-of : tie.After-read-code Inv-loop μ-loop → ℕ
-k-of ar = (st-of ar) .args .count - (i-of ar + 1)
+abbrev k-of : tie.In-loop Inv-loop μ-loop → ℕ
+k-of t = (st-of t) .args .count - (i-of t + 1)
 
 -- what there is to read from the start
 abbrev whole : tie.Start Inv-loop μ-loop → Read (Unit {0})
 whole st = shape (readCodes (arrayNo (st .args .array)) (st .args .count - 1) 1 (bitsFrom (st .args .s .now) (st .args .at)))
 
-here : (ar : tie.After-read-code Inv-loop μ-loop) → shape (readCodes (a-of ar) (suc (k-of ar)) (i-of ar) (here-of ar)) ≡ whole (st-of ar)
-here ar =
-    let e : suc (k-of ar) ≡ (st-of ar) .args .count - i-of ar = omega (arith, ar .before .before .before .before .loop-test .taken) in
-    ap (λ (k : ℕ). shape (readCodes (a-of ar) k (i-of ar) (here-of ar))) e ∙ ar .before .before .before .before .before .loop .inv .1
+here : (t : tie.In-loop Inv-loop μ-loop) → shape (readCodes (a-of t) (suc (k-of t)) (i-of t) (here-of t)) ≡ whole (st-of t)
+here t =
+    let e : suc (k-of t) ≡ (st-of t) .args .count - i-of t = omega (arith, t .loop-test .taken) in
+    ap (λ (k : ℕ). shape (readCodes (a-of t) k (i-of t) (here-of t))) e ∙ t .before .loop .inv .1
+
+-- one code was read
+next : (t : tie.In-loop Inv-loop μ-loop) (q : Place) {d : ℤ} → read d (bitsFrom (s-of t) q) ≡ readCode (a-of t) (i-of t) (here-of t)
+    → shape (readCodes (a-of t) (k-of t) (i-of t + 1) (bitsFrom (s-of t) q)) ≡ whole (st-of t)
+next t q h = sym (shape-next (a-of t) (k-of t) (i-of t) (here-of t) h) ∙ here t
 
 loop-holds : tie.Need-loop-holds Inv-loop μ-loop
 loop-holds c = (omega arith, refl)
@@ -71,21 +78,45 @@ loop-less c =
 loop-again : tie.Need-loop-again Inv-loop μ-loop
 loop-again c =
     let zr = c .before .before .before .before in
-    let l = zr .before .before .loop in
-    let st = zr .before .before .before .before in
-    let s = st .args .s .now in
-    let a : ℕ = arrayNo (st .args .array) in
+    let t = zr .before in
+    let l = t .before .loop in
     let n = zr .zero-run .result .n in
     let q = zr .zero-run .result .next in
-    let k : ℕ = st .args .count - (l .i + n) in
-    let e : n + k ≡ st .args .count - l .i = omega (arith, zr .zero-run .ensures .0, zr .before .loop-test .taken) in (
+    let z = zeros-from (s-of t) (l .p) q n (zr .zero-run .ensures .1) (zr .zero-run .ensures .2) (zr .zero-run .ensures .3) in
+    let k : ℕ = (st-of t) .args .count - (l .i + n) in
+    let e : n + k ≡ (st-of t) .args .count - l .i = omega (arith, zr .zero-run .ensures .0, t .loop-test .taken) in (
       omega arith,
-      sym (from-zeros s (l .p) q a n k (l .i) (zr .zero-run .ensures .1) (zr .zero-run .ensures .2) (zr .zero-run .ensures .3))
-          ∙ ap (λ (u : ℕ). shape (readCodes a u (l .i) (bitsFrom s (l .p)))) e ∙ l .inv .1,
+      sym (zeros-codes (a-of t) n k (l .i) (bitsFrom (s-of t) q))
+          ∙ ap₂ (λ (u : ℕ) (bs : List ℕ). shape (readCodes (a-of t) u (l .i) bs)) e (sym z) ∙ l .inv .1,
     )
 
-read-code-requires : tie.Need-read-code-requires Inv-loop μ-loop
-read-code-requires c κs = search needs
+is-near-requires : tie.Need-is-near-requires Inv-loop μ-loop
+is-near-requires c κs = search needs
+
+read-near-requires : tie.Need-read-near-requires Inv-loop μ-loop
+read-near-requires c κs = c .before .is-near .ensures (c .if2 .taken)
+
+after-requires : tie.Need-after-requires Inv-loop μ-loop
+after-requires c κs =
+    let h = c .before .before .is-near .ensures (c .before .if2 .taken) in
+    let m : c .read-near .result .bits ≤ 36 = c .read-near .ensures .0 in
+    search (needs, h)
+
+add-i-2 : tie.Need-add-i-2 Inv-loop μ-loop
+add-i-2 c = search needs
+
+loop-less-2 : tie.Need-loop-less-2 Inv-loop μ-loop
+loop-less-2 c = search needs
+
+loop-again-2 : tie.Need-loop-again-2 Inv-loop μ-loop
+loop-again-2 c =
+    let rn = c .before in
+    let t = rn .before .before .before .before .before .before in
+    let e = ap (λ (q : Place). read (rn .read-near .result .diff) (bitsFrom (s-of t) q)) (c .after .ensures) in
+    (omega arith, next t (c .after .result) (e ∙ rn .read-near .ensures .1 (a-of t) (i-of t)))
+
+read-far-requires : tie.Need-read-far-requires Inv-loop μ-loop
+read-far-requires c κs = search needs
 
 enum-known-q : tie.Need-enum-known-q Inv-loop μ-loop
 enum-known-q c = search needs
@@ -97,20 +128,22 @@ enum-known-r c = search needs
 returns : tie.Need-returns Inv-loop μ-loop
 returns c =
     let r = c .before in
-    let ar = r .before .before in
-    sym (ap shape (codes-cut (a-of ar) (k-of ar) (i-of ar) (here-of ar) (ap (toldCode (s-of ar)) (sym (r .r .given .1)) ∙ ar .read-code .ensures))) ∙ here ar
+    let rf = r .before .before in
+    let t = rf .before .before .before .before .before .before in
+    sym (ap shape (codes-cut (a-of t) (k-of t) (i-of t) (here-of t) (ap (toldCode (s-of t)) (sym (r .r .given .1)) ∙ rf .read-far .ensures))) ∙ here t
 
-add-i-2 : tie.Need-add-i-2 Inv-loop μ-loop
-add-i-2 c = search needs
+add-i-3 : tie.Need-add-i-3 Inv-loop μ-loop
+add-i-3 c = search needs
 
-loop-less-2 : tie.Need-loop-less-2 Inv-loop μ-loop
-loop-less-2 c = search needs
+loop-less-3 : tie.Need-loop-less-3 Inv-loop μ-loop
+loop-less-3 c = search needs
 
-loop-again-2 : tie.Need-loop-again-2 Inv-loop μ-loop
-loop-again-2 c =
+loop-again-3 : tie.Need-loop-again-3 Inv-loop μ-loop
+loop-again-3 c =
     let q = c .before in
-    let ar = q .before .before in
-    (omega arith, sym (shape-next (a-of ar) (k-of ar) (i-of ar) (here-of ar) (ap (toldCode (s-of ar)) (sym (q .q .given .1)) ∙ ar .read-code .ensures)) ∙ here ar)
+    let rf = q .before .before in
+    let t = rf .before .before .before .before .before .before in
+    (omega arith, next t (q .q .given .0 .1 .0) (ap (toldCode (s-of t)) (sym (q .q .given .1)) ∙ rf .read-far .ensures))
 
 returns-2 : tie.Need-returns-2 Inv-loop μ-loop
 unfolding readCodes
@@ -132,11 +165,17 @@ scan-spec =
     add-i
     loop-less
     loop-again
-    read-code-requires
-    enum-known-q
-    enum-known-r
-    returns
+    is-near-requires
+    read-near-requires
+    after-requires
     add-i-2
     loop-less-2
     loop-again-2
+    read-far-requires
+    enum-known-q
+    enum-known-r
+    returns
+    add-i-3
+    loop-less-3
+    loop-again-3
     returns-2)
