@@ -5,19 +5,12 @@ ghost use Rattle.bits.specs.Write.{toldWrite};
 ghost use Rattle.bits.specs.Extend.{toldExtend};
 ghost use Rattle.encoder.specs.Encode as encoding;
 ghost use Rattle.decoder.specs.Decode as decoding;
-ghost use Rattle.tracker.specs.Refusal.{toldCheck, toldMade};
+ghost use Rattle.tracker.specs.Refusal.{toldCheck};
 ghost use Rattle.lookup.specs.Found.{toldTs, toldSeq};
-ghost use Rattle.offers.specs.Offer.{toldOffer};
-ghost use Rattle.log.specs.Log.{toldLog};
-ghost use Rattle.log.specs.Extend.{toldExtended};
 ghost use Rattle.store.specs.Save.{toldSave};
-ghost use Rattle.store.specs.Restore.{toldRestore};
 ghost use Rattle.answers.specs.Answer.{given, ofCount, ofSigned, ofPiece, ofPlace, ofCheck, ofTs, ofSeq};
-ghost use Rattle.answers.specs.Table.{ofTable, ofOffer, ofLog};
 use crate::Answer;
-use crate::TableAnswer;
 use crate::refusals;
-use crate::states;
 use bits::BitsRead;
 use bits::BitsWritten;
 use bits::Extended;
@@ -26,15 +19,10 @@ use decoder::Decoded;
 use decoder::ImageLen;
 use encoder::Encoded;
 use encoder::EncodedLen;
-use log::Logged;
 use lookup::FoundSeq;
 use lookup::FoundTs;
-use offers::Offered;
-use store::Restored;
 use store::Saved;
 use tracker::Checked;
-use tracker::Made;
-use tracker::SequenceTracker;
 
 fn given(a: u64, b: u64, c: u64) -> Answer
     ensures { λ r. ⌜ r ≡ given a b c ⌝ }
@@ -172,85 +160,5 @@ pub fn of_saved(saved: Saved) -> Answer
         Saved::Written(n) => given(n as u64, 0, 0),
         Saved::Refused(why) => refusals::of_table(why),
         Saved::NotEncoded(why) => refusals::encoding(why),
-    }
-}
-
-pub fn of_made(made: Made) -> TableAnswer
-    ensures { λ r. ⌜ r ≡ ofTable (toldMade made) ⌝ }
-{
-    match made {
-        Made::Table(table) => states::stands(table, 0, 0),
-        Made::Refused(why) => states::no_table(refusals::of_table(why)),
-    }
-}
-
-pub fn of_offered(table: SequenceTracker, offered: Offered) -> TableAnswer
-    ensures { λ r. ⌜ r ≡ ofOffer table (toldOffer offered) ⌝ }
-{
-    match offered {
-        Offered::Recorded(grown) => states::stands(grown, 1, 0),
-        Offered::Skipped => states::stands(table, 0, 1),
-        Offered::Refused(why) => states::no_table(refusals::of_table(why)),
-    }
-}
-
-pub fn of_logged(logged: Logged) -> TableAnswer
-    ensures { λ r. ⌜ r ≡ ofLog (toldLog logged) ⌝ }
-{
-    match logged {
-        Logged::Done {
-            table,
-            recorded,
-            skipped,
-        } => states::stands(table, recorded, skipped),
-        Logged::Stopped {
-            at,
-            why,
-            table,
-            recorded,
-            skipped,
-        } => states::with_table(
-            refusals::of_table_and(why, at as u64),
-            table,
-            recorded,
-            skipped,
-        ),
-        Logged::Refused(why) => states::no_table(refusals::of_table(why)),
-    }
-}
-
-pub fn of_extended(extended: log::Extended) -> TableAnswer
-    ensures { λ r. ⌜ r ≡ ofLog (toldExtended extended) ⌝ }
-{
-    match extended {
-        log::Extended::Done {
-            table,
-            recorded,
-            skipped,
-        } => states::stands(table, recorded, skipped),
-        log::Extended::Stopped {
-            at,
-            why,
-            table,
-            recorded,
-            skipped,
-        } => states::with_table(
-            refusals::of_table_and(why, at as u64),
-            table,
-            recorded,
-            skipped,
-        ),
-        log::Extended::OwnRefused(why) => states::no_table(refusals::of_table_and(why, 0)),
-        log::Extended::OtherRefused(why) => states::no_table(refusals::of_table_and(why, 1)),
-    }
-}
-
-pub fn of_restored(restored: Restored) -> TableAnswer
-    ensures { λ r. ⌜ r ≡ ofTable (toldRestore restored) ⌝ }
-{
-    match restored {
-        Restored::Table(table) => states::stands(table, 0, 0),
-        Restored::Refused(why) => states::no_table(refusals::of_table(why)),
-        Restored::NotDecoded(why) => states::no_table(refusals::reading(why)),
     }
 }

@@ -1,6 +1,5 @@
 // A refusal's number, and what it also tells.
 ghost use mathlib.Core.Path.{_≡_};
-ghost use mathlib.Core.List.{[], _∷_, _++_};
 ghost use Rattle.gorilla.specs.Array.{arrayNo};
 ghost use Rattle.arrays.specs.Refusal.{numbers};
 ghost use Rattle.encoder.specs.Encode as encoding;
@@ -9,7 +8,7 @@ ghost use Rattle.answers.specs.Answer.{refusedBy};
 use crate::Answer;
 use gorilla::Array;
 
-fn refused(number: u32, a: u64, b: u64, c: u64) -> Answer
+pub fn refused(number: u32, a: u64, b: u64, c: u64) -> Answer
     ensures { λ r. ⌜ r ≡ record { number = number; a = a; b = b; c = c } ⌝ }
 {
     Answer {
@@ -73,20 +72,5 @@ pub fn of_table(why: tracker::Refusal) -> Answer
         tracker::Refusal::Settings => refused(15, 0, 0, 0),
         tracker::Refusal::OfferedOutside => refused(16, 0, 0, 0),
         tracker::Refusal::OfferedDrops => refused(17, 0, 0, 0),
-    }
-}
-
-// Of a table's calls, with what is told after the refusal: a position, or which table it was.
-pub fn of_table_and(why: tracker::Refusal, last: u64) -> Answer
-    ensures { λ r. ⌜ r ≡ refusedBy (table.told why ++ (last ∷ [])) ⌝ }
-{
-    match why {
-        tracker::Refusal::Disagrees => refused(14, last, 0, 0),
-        tracker::Refusal::SequenceDrops(i) => refused(11, i as u64, last, 0),
-        tracker::Refusal::SecondDrops(i) => refused(12, i as u64, last, 0),
-        tracker::Refusal::SecondOutside(i) => refused(13, i as u64, last, 0),
-        tracker::Refusal::Settings => refused(15, last, 0, 0),
-        tracker::Refusal::OfferedOutside => refused(16, last, 0, 0),
-        tracker::Refusal::OfferedDrops => refused(17, last, 0, 0),
     }
 }

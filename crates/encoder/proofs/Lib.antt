@@ -1,8 +1,5 @@
-pub mod Once
-pub mod Codes
-pub mod Holding
+pub mod Search
 pub mod Small
-pub mod Arrays
 pub mod Whole
 pub mod Rules
 pub mod Unique

@@ -12,7 +12,7 @@ use Rattle.bits.specs.Signed.{signed}
 use Rattle.gorilla.specs.BitList.{byteLen}
 use Rattle.gorilla.specs.Format.{arrayBits, arrayBytes, leBytes, imageBytes}
 use Rattle.gorilla.proofs.Packing.{length-packed}
-use Rattle.encoder.proofs.Codes.{array-most}
+use Rattle.writer.proofs.Codes.{array-most}
 
 -- ---- the length
 pub image-length : (seqs : List ℕ) (secs : List ℤ)

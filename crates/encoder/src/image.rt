@@ -11,11 +11,11 @@ use crate::Encoded;
 use crate::EncodedLen;
 use crate::FirstWide;
 use crate::Refusal;
-use crate::array::write_secs;
-use crate::array::write_seqs;
 use crate::len::image_bytes;
 use crate::len::most_bytes;
 use crate::strict::first_wide;
+use writer::inner::write_secs;
+use writer::inner::write_seqs;
 
 // The version, and the pair count in four bytes, the least significant first.
 fn write_header(out: &mut [u8], count: usize)

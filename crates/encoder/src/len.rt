@@ -12,6 +12,9 @@ use crate::Refusal;
 use gorilla::Track;
 use gorilla::inner::advance;
 use gorilla::inner::row_of;
+use writer::inner::RUN;
+use writer::inner::even_secs;
+use writer::inner::even_seqs;
 
 // The values that an array to encode may have.
 const MOST: usize = 65536;
@@ -24,7 +27,7 @@ fn code_len(dod: i64) -> usize
     (row.prefix_bits + row.width) as usize
 }
 
-// The bits of the sequences' array.
+// The bits of the sequences' array. A zero code is counted without a look at the rows, and after it a run of them at once.
 fn seqs_bits(seqs: &[u64]) -> usize
     requires { ⌜ length (now seqs) ≤ 65536 ⌝ }
     ensures { λ r. ⌜ r ≡ length (arrayBits (map signed (now (seqs .entry)))) ⌝ }
@@ -40,15 +43,24 @@ fn seqs_bits(seqs: &[u64]) -> usize
     let mut i: usize = 1;
     while i < seqs.len() {
         let c = advance(t, bits::as_signed(seqs[i]));
-        total += code_len(c.dod);
         let next = c.next;
         t = next;
         i += 1;
+        if c.dod == 0 {
+            total += 1;
+            if even_seqs(seqs, i, t) {
+                i += RUN;
+                total += RUN;
+                t.prev = bits::as_signed(seqs[i - 1]);
+            }
+            continue;
+        }
+        total += code_len(c.dod);
     }
     total
 }
 
-// The bits of the seconds' array.
+// The bits of the seconds' array, likewise.
 fn secs_bits(secs: &[i64]) -> usize
     requires { ⌜ length (now secs) ≤ 65536 ⌝ }
     ensures { λ r. ⌜ r ≡ length (arrayBits (now (secs .entry))) ⌝ }
@@ -65,10 +77,19 @@ fn secs_bits(secs: &[i64]) -> usize
     let mut i: usize = 1;
     while i < secs.len() {
         let c = advance(t, secs[i]);
-        total += code_len(c.dod);
         let next = c.next;
         t = next;
         i += 1;
+        if c.dod == 0 {
+            total += 1;
+            if even_secs(secs, i, t) {
+                i += RUN;
+                total += RUN;
+                t.prev = secs[i - 1];
+            }
+            continue;
+        }
+        total += code_len(c.dod);
     }
     total
 }

@@ -1,12 +1,10 @@
 // Encoding: the image of two arrays, into a lent buffer.
 //
-// slatedb's encoder pushes bits into a vector that grows, one at a time. Here codes are gathered into words, and a buffer
-// that may be too short has the image's length counted before a byte is written, so that a refused call leaves it as it
-// was. No public call has a `requires`: what cannot be encoded is refused by a case of the answer, whose number in document
+// slatedb's encoder pushes bits into a vector that grows, one at a time. Here codes are gathered into words (crate
+// `writer`), and a buffer that may be too short has the image's length counted before a byte is written, so that a refused
+// call leaves it as it was. No public call has a `requires`: what cannot be encoded is refused by a case of the answer, whose number in document
 // 01 specs/ lists.
-mod array; // array.rt: one array
 mod calm; // calm.rt: small deltas, told without a search
-mod code; // code.rt: codes as bits, and bits written
 mod image; // image.rt: the image
 mod len; // len.rt: the image's length, counted and at most
 mod strict; // strict.rt: differences that 32 bits do not hold
@@ -39,12 +37,6 @@ pub enum Encoded {
     // the bytes that were written
     Written(usize),
     Refused(Refusal),
-}
-
-// Bits that are held until there is a word of them: the low `width` bits of `value`, the first the most significant.
-struct Held {
-    value: u64,
-    width: u8,
 }
 
 // The first difference of deltas that 32 bits do not hold.

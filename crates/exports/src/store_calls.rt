@@ -4,11 +4,12 @@ ghost use lib.ListN.{length};
 ghost use Rattle.store.specs.Save.{saveOf, saveStrictOf, savedIn};
 ghost use Rattle.store.specs.Restore.{restoreOf, seqsAfter, secsAfter};
 ghost use Rattle.answers.specs.Answer.{ofCount};
-ghost use Rattle.answers.specs.Table.{tableOf, ofTable};
+ghost use Rattle.table_answers.specs.Table.{tableOf, ofTable};
 use answers::Answer;
-use answers::State;
-use answers::TableAnswer;
 use answers::inner;
+use table_answers::State;
+use table_answers::TableAnswer;
+use table_answers::inner as tables;
 
 // Gives the bytes written.
 #[no_mangle]
@@ -16,7 +17,7 @@ pub extern "C" fn skut_save(state: State, seqs: &[u64], secs: &[i64], out: &mut 
     ensures answer { λ r. ⌜ r ≡ ofCount (saveOf (tableOf state) (now (seqs .entry)) (now (secs .entry)) (length (now (out .entry)))) ⌝ }
     ensures out { λ r. ⌜ now (out .exit) ≡ savedIn (tableOf state) (now (seqs .entry)) (now (secs .entry)) (saveOf (tableOf state) (now (seqs .entry)) (now (secs .entry)) (length (now (out .entry)))) (now (out .entry)) ⌝ }
 {
-    let table = inner::table_of(state);
+    let table = tables::table_of(state);
     inner::of_saved(store::save(table, seqs, secs, out))
 }
 
@@ -31,7 +32,7 @@ pub extern "C" fn skut_save_strict(
     ensures answer { λ r. ⌜ r ≡ ofCount (saveStrictOf (tableOf state) (now (seqs .entry)) (now (secs .entry)) (length (now (out .entry)))) ⌝ }
     ensures out { λ r. ⌜ now (out .exit) ≡ savedIn (tableOf state) (now (seqs .entry)) (now (secs .entry)) (saveStrictOf (tableOf state) (now (seqs .entry)) (now (secs .entry)) (length (now (out .entry)))) (now (out .entry)) ⌝ }
 {
-    let table = inner::table_of(state);
+    let table = tables::table_of(state);
     inner::of_saved(store::save_strict(table, seqs, secs, out))
 }
 
@@ -42,5 +43,5 @@ pub extern "C" fn skut_restore(bytes: &[u8], seqs: &mut [u64], secs: &mut [i64])
     ensures seqs { λ r. ⌜ now (seqs .exit) ≡ seqsAfter (now (bytes .entry)) (restoreOf (now (bytes .entry)) (now (seqs .entry)) (now (secs .entry))) (now (seqs .entry)) ⌝ }
     ensures secs { λ r. ⌜ now (secs .exit) ≡ secsAfter (now (bytes .entry)) (restoreOf (now (bytes .entry)) (now (seqs .entry)) (now (secs .entry))) (now (secs .entry)) ⌝ }
 {
-    inner::of_restored(store::restore(bytes, seqs, secs))
+    tables::of_restored(store::restore(bytes, seqs, secs))
 }

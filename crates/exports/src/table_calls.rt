@@ -8,11 +8,12 @@ ghost use Rattle.offers.specs.Offer.{offerOf, after};
 ghost use Rattle.log.specs.Log.{recordsOf, logOf};
 ghost use Rattle.log.specs.Extend.{extendOf};
 ghost use Rattle.answers.specs.Answer.{ofCheck, ofTs, ofSeq};
-ghost use Rattle.answers.specs.Table.{tableOf, roundOf, stands, ofTable, ofOffer, ofLog};
+ghost use Rattle.table_answers.specs.Table.{tableOf, roundOf, stands, ofTable, ofOffer, ofLog};
 use answers::Answer;
-use answers::State;
-use answers::TableAnswer;
 use answers::inner;
+use table_answers::State;
+use table_answers::TableAnswer;
+use table_answers::inner as tables;
 use tracker::Second;
 use tracker::Seq;
 
@@ -21,7 +22,7 @@ use tracker::Seq;
 pub extern "C" fn skut_new() -> TableAnswer
     ensures { λ r. ⌜ r ≡ stands newTable 0 0 ⌝ }
 {
-    inner::stands(tracker::new(), 0, 0)
+    tables::stands(tracker::new(), 0, 0)
 }
 
 // An empty table with the settings named.
@@ -29,7 +30,7 @@ pub extern "C" fn skut_new() -> TableAnswer
 pub extern "C" fn skut_with_config(capacity: u32, interval_secs: u64) -> TableAnswer
     ensures { λ r. ⌜ r ≡ ofTable (configOf capacity «interval_secs») ⌝ }
 {
-    inner::of_made(tracker::with_config(capacity, interval_secs))
+    tables::of_made(tracker::with_config(capacity, interval_secs))
 }
 
 // What every call on a table checks first. Gives nothing: the number is 0 where the table is good.
@@ -37,7 +38,7 @@ pub extern "C" fn skut_with_config(capacity: u32, interval_secs: u64) -> TableAn
 pub extern "C" fn skut_check(state: State, seqs: &[u64], secs: &[i64]) -> Answer
     ensures { λ r. ⌜ r ≡ ofCheck (checkOf (tableOf state) (now (seqs .entry)) (now (secs .entry))) ⌝ }
 {
-    let table = inner::table_of(state);
+    let table = tables::table_of(state);
     inner::of_checked(tracker::check(table, seqs, secs))
 }
 
@@ -54,9 +55,9 @@ pub extern "C" fn skut_offer(
     ensures seqs { λ r. ⌜ now (seqs .exit) ≡ after (offerOf (tableOf state) (now (seqs .entry)) (now (secs .entry)) (record { 0 = seq }) (record { 0 = sec })) (tableOf state) (now (seqs .entry)) seq ⌝ }
     ensures secs { λ r. ⌜ now (secs .exit) ≡ after (offerOf (tableOf state) (now (seqs .entry)) (now (secs .entry)) (record { 0 = seq }) (record { 0 = sec })) (tableOf state) (now (secs .entry)) sec ⌝ }
 {
-    let table = inner::table_of(state);
+    let table = tables::table_of(state);
     let offered = offers::offer(table, seqs, secs, Seq(seq), Second(sec));
-    inner::of_offered(table, offered)
+    tables::of_offered(table, offered)
 }
 
 // A list of offers, as many as the shorter of two lists has. Stopped at a record, the answer tells its position.
@@ -72,8 +73,8 @@ pub extern "C" fn skut_offer_pairs(
     ensures seqs { λ r. ⌜ now (seqs .exit) ≡ logOf (tableOf state) (now (seqs .entry)) (now (secs .entry)) (recordsOf (now («from_seqs» .entry)) (now («from_secs» .entry))) .seqs ⌝ }
     ensures secs { λ r. ⌜ now (secs .exit) ≡ logOf (tableOf state) (now (seqs .entry)) (now (secs .entry)) (recordsOf (now («from_seqs» .entry)) (now («from_secs» .entry))) .secs ⌝ }
 {
-    let table = inner::table_of(state);
-    inner::of_logged(log::offer_pairs(table, seqs, secs, from_seqs, from_secs))
+    let table = tables::table_of(state);
+    tables::of_logged(log::offer_pairs(table, seqs, secs, from_seqs, from_secs))
 }
 
 // The pairs that another table keeps, offered. A bad table's refusal also tells, last, which it was: 0 the own, 1 the other.
@@ -90,10 +91,10 @@ pub extern "C" fn skut_extend_from(
     ensures seqs { λ r. ⌜ now (seqs .exit) ≡ extendOf (tableOf state) (now (seqs .entry)) (now (secs .entry)) (tableOf other) (now («other_seqs» .entry)) (now («other_secs» .entry)) .seqs ⌝ }
     ensures secs { λ r. ⌜ now (secs .exit) ≡ extendOf (tableOf state) (now (seqs .entry)) (now (secs .entry)) (tableOf other) (now («other_seqs» .entry)) (now («other_secs» .entry)) .secs ⌝ }
 {
-    let table = inner::table_of(state);
-    let from = inner::table_of(other);
+    let table = tables::table_of(state);
+    let from = tables::table_of(other);
     let extended = log::extend_from(table, seqs, secs, from, other_seqs, other_secs);
-    inner::of_extended(extended)
+    tables::of_extended(extended)
 }
 
 // Gives 1 and the second for a sequence, by its 64 bits, or 0. A `round` of 0 rounds up, any other down.
@@ -107,8 +108,8 @@ pub extern "C" fn skut_find_ts(
 ) -> Answer
     ensures { λ r. ⌜ r ≡ ofTs (findTs (tableOf state) (now (seqs .entry)) (now (secs .entry)) (record { 0 = seq }) (roundOf round)) ⌝ }
 {
-    let table = inner::table_of(state);
-    let opt = inner::round_of(round);
+    let table = tables::table_of(state);
+    let opt = tables::round_of(round);
     inner::of_found_ts(lookup::find_ts(table, seqs, secs, Seq(seq), opt))
 }
 
@@ -123,7 +124,7 @@ pub extern "C" fn skut_find_seq(
 ) -> Answer
     ensures { λ r. ⌜ r ≡ ofSeq (findSeq (tableOf state) (now (seqs .entry)) (now (secs .entry)) (record { 0 = sec }) (roundOf round)) ⌝ }
 {
-    let table = inner::table_of(state);
-    let opt = inner::round_of(round);
+    let table = tables::table_of(state);
+    let opt = tables::round_of(round);
     inner::of_found_seq(lookup::find_seq(table, seqs, secs, Second(sec), opt))
 }

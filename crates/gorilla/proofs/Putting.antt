@@ -7,20 +7,17 @@ use native.Mathlib.Omega.{arith}
 use lib.ListN.{length, getD, drop, length-set, length-append, drop-of-length-le}
 use lib.Seq.{drop-cons}
 use native.Mathlib.Numerals.{add-one}
-use Rattle.gorilla.specs.declared.Track.{Track}
-use Rattle.gorilla.specs.declared.Coded.{Coded}
-use Rattle.gorilla.specs.Steps.{advanced}
 use lib.IntN.{ℤ, pos}
 use Rattle.bits.specs.Bits.{putBit, putBits}
 use Rattle.bits.specs.Place.{placeOf}
 use Rattle.bits.specs.declared.Place.{Place}
 use Rattle.bits.proofs.Bits.{putBits-add}
 use Rattle.gorilla.specs.declared.Row.{Row}
-use Rattle.bits.specs.Signed.{subS, lowBits, pattern}
+use Rattle.bits.specs.Signed.{subS}
 use Rattle.gorilla.specs.Rows.{rowOf}
 use Rattle.gorilla.specs.BitList.{natBits}
 use Rattle.gorilla.specs.Places.{putList}
-use Rattle.gorilla.specs.Format.{codeBits, codesBits, valuesBits, arrayBits}
+use Rattle.gorilla.specs.Format.{codeBits, codesBits}
 use Rattle.gorilla.proofs.Bridge.{length-natBits}
 use Rattle.gorilla.proofs.Trip.{rows}
 
@@ -67,14 +64,6 @@ place-pos q {p} e = ap (λ (r : Place). r .byte * 8 + r .bit) e ∙ omega arith
 pub place-bit : (q : ℕ) {p : Place} → p ≡ placeOf q → p .bit < 8
 place-bit q {p} e = subst (λ (r : Place). r .bit < 8) (sym e) (omega arith)
 
--- a code, as its two writes put it
-pub code-put : (s u t : List ℕ) (q k : ℕ) (d : ℤ) (r : Row) (x : ℕ) → r ≡ rowOf d → x ≡ lowBits ((rowOf d) .width) d
-    → u ≡ putList s q (natBits (r .«prefix_bits») (r .prefix)) → k ≡ q + r .«prefix_bits» → t ≡ putList u k (natBits (r .width) x) → t ≡ putList s q (codeBits d)
-unfolding codeBits
-code-put s u t q k d r x e f g h i =
-    i ∙ ap₂ (λ (l : List ℕ) (m : ℕ). putList l m (natBits (r .width) x)) g h ∙ two-parts s q (r .«prefix_bits») (r .prefix) (r .width) x
-    ∙ ap₂ (λ (y : Row) (m : ℕ). putList s q (natBits (y .«prefix_bits») (y .prefix) ++ natBits (y .width) m)) e f
-
 -- ---- the codes, one after the other
 pub codes-step : (xs : List ℤ) (i : ℕ) (p e : ℤ) → i < length xs
     → codesBits p e (drop i xs) ≡ codeBits (subS (subS (getD xs i (pos 0)) p) e) ++ codesBits (getD xs i (pos 0)) (subS (getD xs i (pos 0)) p) (drop (i + 1) xs)
@@ -84,16 +73,3 @@ codes-step xs i p e h = rw (drop-cons xs i (pos 0) h, add-one)
 pub codes-done : (xs : List ℤ) (i : ℕ) (p e : ℤ) → length xs ≤ i → codesBits p e (drop i xs) ≡ []
 unfolding codesBits
 codes-done xs i p e h = rw (drop-of-length-le xs h)
-
--- one code is put: what is left is put after it. c is where the value leads, and z its difference
-module _ (xs : List ℤ) (i : ℕ) (t : Track) (h : i < length xs) (c : Coded) (z : ℤ) (e : c ≡ advanced t (getD xs i (pos 0))) (f : z ≡ c .dod) where
-  step-is : codesBits (t .prev) (t .delta) (drop i xs) ≡ codeBits z ++ codesBits (c .next .prev) (c .next .delta) (drop (i + 1) xs)
-  step-is = codes-step xs i (t .prev) (t .delta) h ∙ ap (λ (k : Coded). codeBits (k .dod) ++ codesBits (k .next .prev) (k .next .delta) (drop (i + 1) xs)) (sym e)
-      ∙ ap (λ (y : ℤ). codeBits y ++ codesBits (c .next .prev) (c .next .delta) (drop (i + 1) xs)) (sym f)
-
-  pub step-length : length (codesBits (t .prev) (t .delta) (drop i xs)) ≡ length (codeBits z) + length (codesBits (c .next .prev) (c .next .delta) (drop (i + 1) xs))
-  step-length = ap length step-is ∙ simp length-append
-
-  pub step-put : (s : List ℕ) (q : ℕ) → putList s q (codesBits (t .prev) (t .delta) (drop i xs))
-      ≡ putList (putList s q (codeBits z)) (q + length (codeBits z)) (codesBits (c .next .prev) (c .next .delta) (drop (i + 1) xs))
-  step-put s q = ap (putList s q) step-is ∙ put-append s q (codeBits z) (codesBits (c .next .prev) (c .next .delta) (drop (i + 1) xs))

@@ -127,7 +127,7 @@ subS-fits a b = sfits-toZ {w = w64} {n = subW (pattern a) (pattern b)} (record {
 pub addS-fits : (a b : ℤ) → SFits w64 (addS a b)
 addS-fits a b = sfits-toZ {w = w64} {n = addW (pattern a) (pattern b)} (record { fits = omega arith })
 
-subS-addS : (a b : ℤ) → SFits w64 a → SFits w64 b → subS (addS b a) b ≡ a
+pub subS-addS : (a b : ℤ) → SFits w64 a → SFits w64 b → subS (addS b a) b ≡ a
 subS-addS a b f g =
     let k : subW (addW (pattern b) (pattern a)) (pattern b) ≡ pattern a = omega (arith, sub-add (pattern a) (pattern b) (pattern-lt a f) (pattern-lt b g)) in
     ap (λ (n : ℕ). signed (subW n (pattern b))) (pattern-signed (addW (pattern b) (pattern a)) (omega arith))

@@ -2,7 +2,7 @@ use borrow.Author.Needs.{needs}
 use mathlib.Core.Path.{refl, sym, ap, _∙_}
 use Rattle.gorilla.specs.Wide.{none, wideIn}
 use Rattle.encoder.specs.Parts.{foundWide}
-use Rattle.encoder.proofs.Codes.{wide-both}
+use Rattle.encoder.proofs.Search.{wide-both}
 use Rattle.encoder.proofs.strict.first_wide.Statement.{statement}
 use Rattle.encoder.proofs.strict.first_wide.Tie as tie
 

@@ -11,7 +11,7 @@ use mir.Facts.{toZ-ofZ}
 use Rattle.bits.specs.Signed.{signed}
 use Rattle.gorilla.specs.Steps.{advanced}
 use Rattle.gorilla.specs.Wide.{wideAfter, wideIn}
-use Rattle.encoder.proofs.Codes.{not-true, not-false, wide-none, wide-first, wide-next, wide-here, wide-last}
+use Rattle.encoder.proofs.Search.{not-true, not-false, wide-none, wide-first, wide-next, wide-here, wide-last}
 use Rattle.encoder.proofs.strict.first_wide_seq.Statement.{statement}
 use Rattle.encoder.proofs.strict.first_wide_seq.Tie as tie
 

@@ -1,0 +1,5 @@
+pub mod Once
+pub mod Codes
+pub mod Runs
+pub mod Holding
+pub mod Arrays
