@@ -69,8 +69,8 @@ impl SequenceTracker {
         SequenceTracker { state, seqs: vec![0; n], secs: vec![0; n] }
     }
 
-    /// Offers a pair. Refused, where its second is outside the years 0001 to 9999 (16), or where it is not skipped and its sequence is below the last
-    /// kept one (17); slatedb panics there.
+    /// Offers a pair. It is refused where its second is outside the years 0001 to 9999 (16), and where it is not skipped and its sequence is below the last
+    /// kept one (17), at which slatedb panics.
     pub fn insert(&mut self, pair: TrackedSeq) -> Result<Inserted, Error> {
         let (seqs, secs) = (&mut self.seqs, &mut self.secs);
         let answer = unsafe { sys::skut_offer(self.state, seqs.as_mut_ptr(), seqs.len(), secs.as_mut_ptr(), secs.len(), pair.seq.0, pair.ts.0) };

@@ -6,16 +6,15 @@ use mathlib.Core.List.{List}
 use Prim.Native.Nat.{ℕ, _+_, _/_, _≤_, _<_}
 use native.Mathlib.Nat.{eq-or-lt-of-le}
 use native.Mathlib.Omega.{arith}
-use borrow.Author.Tests.{ltb-false}
 use lib.Dec.{ltb}
-use lib.IntN.{ℤ, pos, negsuc}
+use lib.IntN.{ℤ}
 use lib.ListN.{length, getD}
 use mir.Syntax.{w64}
 use mir.Val.{SFits}
 use Rattle.bits.specs.Over.{over}
 use Rattle.tracker.specs.Domain.{outside}
-use Rattle.tracker.proofs.Bools.{neither}
 use Rattle.offers.specs.Keep.{appended, thinned, countWith}
+use Rattle.offers.proofs.Difference.{inside-mag}
 use Rattle.offers.proofs.Thinned.{appended-old, appended-new}
 use Rattle.offers.proofs.Rise.{selected}
 
@@ -40,5 +39,4 @@ some-kept cap n = go (ltb n cap)
 
 -- a second of the domain is an i64
 pub inside-fits : (s : ℤ) → outside s ≡ false → SFits w64 s
-inside-fits (pos n) e = record { sfits = omega (arith, ltb-false 253402300799 n e) }
-inside-fits (negsuc n) e = record { sfits = omega (arith, ltb-false 62135596799 n (neither (ltb 62135596799 n) false e .0)) }
+inside-fits s e = record { sfits = omega (arith, inside-mag s e) }

@@ -1,5 +1,3 @@
-pub mod Search
-pub mod Small
 pub mod Whole
 pub mod Rules
 pub mod Unique

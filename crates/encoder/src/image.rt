@@ -9,11 +9,11 @@ ghost use Rattle.gorilla.specs.Format.{leBytes, imageBytes};
 ghost use Rattle.encoder.specs.Encode.{toldEncode, roomRule, encodeRule, strictRule, encodedIn};
 use crate::Encoded;
 use crate::EncodedLen;
-use crate::FirstWide;
 use crate::Refusal;
 use crate::len::image_bytes;
 use crate::len::most_bytes;
-use crate::strict::first_wide;
+use strict::inner::FirstWide;
+use strict::inner::first_wide;
 use writer::inner::write_secs;
 use writer::inner::write_seqs;
 

@@ -4,10 +4,8 @@
 // `writer`), and a buffer that may be too short has the image's length counted before a byte is written, so that a refused
 // call leaves it as it was. No public call has a `requires`: what cannot be encoded is refused by a case of the answer, whose number in document
 // 01 specs/ lists.
-mod calm; // calm.rt: small deltas, told without a search
 mod image; // image.rt: the image
 mod len; // len.rt: the image's length, counted and at most
-mod strict; // strict.rt: differences that 32 bits do not hold
 
 use gorilla::Array;
 pub use image::encode;
@@ -37,10 +35,4 @@ pub enum Encoded {
     // the bytes that were written
     Written(usize),
     Refused(Refusal),
-}
-
-// The first difference of deltas that 32 bits do not hold.
-enum FirstWide {
-    None,
-    At(Array, usize),
 }

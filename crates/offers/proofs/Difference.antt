@@ -27,7 +27,8 @@ mag-diff (negsuc a) (pos zero) = let h = mag-sub 0 (suc a) in omega arith
 mag-diff (negsuc a) (pos (suc b)) = omega arith
 mag-diff (negsuc a) (negsuc b) = let h = mag-sub (suc b) (suc a) in omega arith
 
-inside-mag : (a : ℤ) → outside a ≡ false → mag a < 253402300800
+-- a second of the domain is small
+pub inside-mag : (a : ℤ) → outside a ≡ false → mag a < 253402300800
 inside-mag (pos n) e = omega (arith, ltb-false 253402300799 n e)
 inside-mag (negsuc n) e = omega (arith, ltb-false 62135596799 n (neither (ltb 62135596799 n) false e .0))
 

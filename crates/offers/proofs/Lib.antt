@@ -1,7 +1,7 @@
 -- Laws that belong to no one function.
 pub mod Thinned
 mod Halve
-mod Difference
+pub mod Difference
 pub mod Rise
 pub mod Preserved
 pub mod Alike

@@ -16,7 +16,7 @@ use Rattle.gorilla.specs.declared.Track.{Track}
 use Rattle.gorilla.specs.Rows.{strict}
 use Rattle.gorilla.specs.Steps.{advanced}
 use Rattle.gorilla.specs.Wide.{none, wideAfter, wideIn}
-use Rattle.encoder.proofs.Search.{wide-last, wide-next}
+use Rattle.strict.proofs.Wide.{wide-last, wide-next}
 
 -- a pattern moved up by 2^29 that is below 2^30
 pub moved-small : (d : ℤ) → SFits w64 d → (pattern d + 536870912) % 2 ^ 64 / 2 ^ 30 ≡ 0 → natAbs d ≤ 2 ^ 29

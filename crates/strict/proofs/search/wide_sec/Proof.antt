@@ -1,6 +1,6 @@
 use borrow.Author.Needs.{needs}
-use Rattle.encoder.proofs.strict.wide_sec.Statement.{statement}
-use Rattle.encoder.proofs.strict.wide_sec.Tie as tie
+use Rattle.strict.proofs.search.wide_sec.Statement.{statement}
+use Rattle.strict.proofs.search.wide_sec.Tie as tie
 
 calm-secs-requires : tie.Need-calm-secs-requires
 calm-secs-requires c κs = search needs

@@ -1,10 +1,10 @@
 use borrow.Author.Needs.{needs}
 use mathlib.Core.Path.{refl, sym, ap, _∙_}
 use Rattle.gorilla.specs.Wide.{none, wideIn}
-use Rattle.encoder.specs.Parts.{foundWide}
-use Rattle.encoder.proofs.Search.{wide-both}
-use Rattle.encoder.proofs.strict.first_wide.Statement.{statement}
-use Rattle.encoder.proofs.strict.first_wide.Tie as tie
+use Rattle.strict.specs.Found.{foundWide}
+use Rattle.strict.proofs.Wide.{wide-both}
+use Rattle.strict.proofs.search.first_wide.Statement.{statement}
+use Rattle.strict.proofs.search.first_wide.Tie as tie
 
 wide-seq-requires : tie.Need-wide-seq-requires
 wide-seq-requires c κs = search needs

@@ -7,9 +7,9 @@ use mir.Syntax.{w64}
 use mir.Val.{SFits}
 use mir.Facts.{toZ-ofZ}
 use Rattle.bits.specs.Signed.{pattern, subS}
-use Rattle.encoder.proofs.Small.{moved-small}
-use Rattle.encoder.proofs.calm.excess.Statement.{statement}
-use Rattle.encoder.proofs.calm.excess.Tie as tie
+use Rattle.strict.proofs.Small.{moved-small}
+use Rattle.strict.proofs.calm.excess.Statement.{statement}
+use Rattle.strict.proofs.calm.excess.Tie as tie
 
 wrapping-sub-requires : tie.Need-wrapping-sub-requires
 wrapping-sub-requires c κs = search needs

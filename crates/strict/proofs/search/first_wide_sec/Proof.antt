@@ -10,9 +10,9 @@ use mir.Val.{SFits, toZ, ofZ}
 use mir.Facts.{toZ-ofZ}
 use Rattle.gorilla.specs.Steps.{advanced}
 use Rattle.gorilla.specs.Wide.{wideAfter, wideIn}
-use Rattle.encoder.proofs.Search.{not-true, not-false, wide-none, wide-first, wide-next, wide-here, wide-last}
-use Rattle.encoder.proofs.strict.first_wide_sec.Statement.{statement}
-use Rattle.encoder.proofs.strict.first_wide_sec.Tie as tie
+use Rattle.strict.proofs.Wide.{not-true, not-false, wide-none, wide-first, wide-next, wide-here, wide-last}
+use Rattle.strict.proofs.search.first_wide_sec.Statement.{statement}
+use Rattle.strict.proofs.search.first_wide_sec.Tie as tie
 
 abbrev Inv-loop : tie.InvT-loop
 Inv-loop secs first t₀ i₀ t i = (1 ≤ i) × (i ≤ length secs) × (wideAfter 1 i (t .prev) (t .delta) (drop i secs) ≡ wideIn 1 secs)

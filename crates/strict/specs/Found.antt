@@ -1,8 +1,8 @@
--- What the steps of an encoder promise each other.
+-- What a search for a difference of deltas found.
 use Rattle.gorilla.specs.Array.{arrayNo}
 use Rattle.gorilla.specs.Wide.{Wide, none, found}
-use Rattle.encoder.specs.declared.FirstWide.{FirstWide}
-use Rattle.encoder.specs.declared.FirstWide.the-variants as first
+use Rattle.strict.specs.declared.FirstWide.{FirstWide}
+use Rattle.strict.specs.declared.FirstWide.the-variants as first
 
 -- the difference of deltas that a search found
 abbrev pub foundWide : FirstWide → Wide

@@ -11,9 +11,9 @@ use mir.Facts.{toZ-ofZ}
 use Rattle.bits.specs.Signed.{signed}
 use Rattle.gorilla.specs.Steps.{advanced}
 use Rattle.gorilla.specs.Wide.{wideAfter, wideIn}
-use Rattle.encoder.proofs.Search.{not-true, not-false, wide-none, wide-first, wide-next, wide-here, wide-last}
-use Rattle.encoder.proofs.strict.first_wide_seq.Statement.{statement}
-use Rattle.encoder.proofs.strict.first_wide_seq.Tie as tie
+use Rattle.strict.proofs.Wide.{not-true, not-false, wide-none, wide-first, wide-next, wide-here, wide-last}
+use Rattle.strict.proofs.search.first_wide_seq.Statement.{statement}
+use Rattle.strict.proofs.search.first_wide_seq.Tie as tie
 
 abbrev Inv-loop : tie.InvT-loop
 Inv-loop seqs t₀ i₀ t i = (1 ≤ i) × (i ≤ length seqs) × (wideAfter 0 i (t .prev) (t .delta) (drop i (map signed seqs)) ≡ wideIn 0 (map signed seqs))

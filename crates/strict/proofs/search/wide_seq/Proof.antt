@@ -1,6 +1,6 @@
 use borrow.Author.Needs.{needs}
-use Rattle.encoder.proofs.strict.wide_seq.Statement.{statement}
-use Rattle.encoder.proofs.strict.wide_seq.Tie as tie
+use Rattle.strict.proofs.search.wide_seq.Statement.{statement}
+use Rattle.strict.proofs.search.wide_seq.Tie as tie
 
 calm-seqs-requires : tie.Need-calm-seqs-requires
 calm-seqs-requires c κs = search needs

@@ -1,0 +1,2 @@
+mod Wide
+mod Small
