@@ -77,20 +77,23 @@ fn images(bench: &mut Bench, data: &str, n: usize) {
     let (seqs, secs) = (t.sequence_numbers.clone(), t.timestamps.clone());
     let ours = table_of(chance, &t);
     let name = |work: &str| format!("{work}, {data}, {n}");
-    for strict in [false, true] {
-        let mut out = lent::bytes(chance, image.len());
-        bench.work(
-            &name(if strict { "encode_strict" } else { "encode" }),
-            || rust_encode(black_box(&t)).len(),
-            || ours::encode(strict, black_box(&seqs), black_box(&secs), &mut out).a as usize,
-        );
-        assert_eq!(out.places(), image);
-        bench.work(
-            &name(if strict { "save_strict" } else { "save" }),
-            || rust_encode(black_box(&t)).len(),
-            || black_box(&ours).save(strict, &mut out).a as usize,
-        );
-        assert_eq!(out.places(), image);
+    // Into exactly the image's length, and into room for any image of so many pairs.
+    for (room, into) in [(image.len(), ""), (9 * n + 21, " into 9n + 21 bytes")] {
+        for strict in [false, true] {
+            let mut out = lent::bytes(chance, room);
+            bench.work(
+                &name(&format!("encode{}{into}", if strict { "_strict" } else { "" })),
+                || rust_encode(black_box(&t)).len(),
+                || ours::encode(strict, black_box(&seqs), black_box(&secs), &mut out).a as usize,
+            );
+            assert_eq!(out.places()[..image.len()], image);
+            bench.work(
+                &name(&format!("save{}{into}", if strict { "_strict" } else { "" })),
+                || rust_encode(black_box(&t)).len(),
+                || black_box(&ours).save(strict, &mut out).a as usize,
+            );
+            assert_eq!(out.places()[..image.len()], image);
+        }
     }
     let (mut to_seqs, mut to_secs) = (lent::seqs(chance, &[], 8192), lent::secs(chance, &[], 8192));
     let mut read = |name: String, mut ours: Box<dyn FnMut(&mut Lent<u64>, &mut Lent<i64>) -> usize>| {
