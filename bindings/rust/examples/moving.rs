@@ -1,4 +1,4 @@
-// Before: use slatedb::seq_tracker::{FindOption, SequenceTracker, TrackedSeq};
+// Before, with slatedb's src/seq_tracker.rs: use crate::seq_tracker::{FindOption, SequenceTracker, TrackedSeq};
 use skutlaneb::{FindOption, Second, Seq, SequenceTracker, TrackedSeq};
 
 fn main() -> Result<(), Box<dyn std::error::Error>> {
