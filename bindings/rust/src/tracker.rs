@@ -49,6 +49,8 @@ fn places(capacity: u32) -> usize {
     capacity.max(1) as usize
 }
 
+// Safety of the calls below: each pointer goes with the length of the vector or slice that it comes from, and what a call writes to is borrowed mutably,
+// so that it overlaps nothing else. The library asks nothing more: whatever the numbers say, it stays within those lengths.
 impl SequenceTracker {
     /// An empty table of capacity 8,192 and an interval of 60 seconds.
     pub fn new() -> SequenceTracker {
