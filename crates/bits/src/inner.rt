@@ -3,7 +3,7 @@ ghost use mathlib.Core.Path.{_≡_};
 ghost use Prim.Native.Nat.{_+_, _*_, _-_, _/_, _%_, _^_, _≤_, _<_, min};
 ghost use lib.ListN.{length};
 ghost use Rattle.bits.specs.Bits.{bitAt, bitsAt, putBits};
-ghost use Rattle.bits.specs.Place.{posOf, placeOf, Settled};
+ghost use Rattle.bits.specs.Place.{placeOf, Settled};
 ghost use Rattle.bits.specs.Signed.{lowBits};
 use crate::Place;
 use crate::as_unsigned;

@@ -36,7 +36,7 @@ pub extern "C" fn skut_save_strict(
     inner::of_saved(store::save_strict(table, seqs, secs, out))
 }
 
-// Needs 128 KB of stack.
+// Needs 130 KB of stack: two arrays of 8,192 are its own.
 #[no_mangle]
 pub extern "C" fn skut_restore(bytes: &[u8], seqs: &mut [u64], secs: &mut [i64]) -> TableAnswer
     ensures answer { λ r. ⌜ r ≡ ofTable (restoreOf (now (bytes .entry)) (now (seqs .entry)) (now (secs .entry))) ⌝ }

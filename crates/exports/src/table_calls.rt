@@ -1,6 +1,5 @@
 // A table: settings, the check, offers, lookups. A second is a signed number, a sequence an unsigned one.
 ghost use mathlib.Core.Path.{_≡_};
-ghost use Rattle.bits.specs.Told.{gave};
 ghost use Rattle.tracker.specs.Settings.{newTable, configOf};
 ghost use Rattle.tracker.specs.Table.{checkOf};
 ghost use Rattle.lookup.specs.Find.{findTs, findSeq};

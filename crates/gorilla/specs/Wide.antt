@@ -1,7 +1,7 @@
 -- Refusal 20: the first difference of deltas outside -2^31..2^31-1, sequences before seconds. Array 0 is the sequences, and
 -- array 1 the seconds.
 use Prim.Native.Nat.{ℕ, _+_}
-use mathlib.Core.Bool.{Bool, cond}
+use mathlib.Core.Bool.{cond}
 use mathlib.Core.List.{List, [], _∷_, map}
 use lib.IntN.{ℤ, pos}
 use Rattle.bits.specs.Signed.{signed, subS}

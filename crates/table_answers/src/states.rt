@@ -1,6 +1,5 @@
 // A table's state as it crosses, and the answers that hold one.
 ghost use mathlib.Core.Path.{_≡_};
-ghost use Prim.Native.Nat.{ℕ};
 ghost use Rattle.table_answers.specs.Table.{lastIn, tableOf, roundOf, markOf, secondOf, stateOf, stands, noTable};
 use crate::State;
 use crate::TableAnswer;
