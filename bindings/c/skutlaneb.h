@@ -1,4 +1,4 @@
-/* The sequence table's calls for C, and for whatever links C. `rt staticlib exports` writes the library, target/staticlib/libexports.a,
+/* The sequence table's calls for C, and for whatever links C. `rt staticlib skutlaneb` writes the library, target/staticlib/libskutlaneb.a,
  * for x86-64 and the System V convention of calls. docs/STATEMENTS.md has what is proved of each call.
  *
  * No argument makes a call misread: what numbers do not make is refused by a number of the list below. The caller answers for one thing, that a

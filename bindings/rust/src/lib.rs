@@ -18,7 +18,7 @@
 //! What slatedb panics at or answers in silence is an [`Error`] here, with the number of the project's list of refusals. A refused call leaves the table as it
 //! was; [`SequenceTracker::insert_all`] and [`SequenceTracker::extend_from`] keep the pairs before the refused one.
 //!
-//! The library is `libexports.a`, for x86-64; `rt staticlib exports` in the project's folder writes it. Calls use no heap; this crate
+//! The library is `libskutlaneb.a`, for x86-64; `rt staticlib skutlaneb` in the project's folder writes it. Calls use no heap; this crate
 //! owns the arrays that it lends them.
 mod error;
 mod lists;

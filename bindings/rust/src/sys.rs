@@ -35,7 +35,7 @@ pub struct TableAnswer {
     pub state: State,
 }
 
-#[link(name = "exports", kind = "static")]
+#[link(name = "skutlaneb", kind = "static")]
 #[rustfmt::skip]
 extern "C" {
     pub fn skut_new() -> TableAnswer;

@@ -2,7 +2,7 @@
 ghost use mathlib.Core.Path.{_≡_};
 ghost use Rattle.bits.specs.Read.{toldRead};
 ghost use Rattle.bits.specs.Write.{toldWrite};
-ghost use Rattle.bits.specs.Extend.{toldExtend};
+ghost use Rattle.signed.specs.Extend.{toldExtend};
 ghost use Rattle.encoder.specs.Encode as encoding;
 ghost use Rattle.decoder.specs.Decode as decoding;
 ghost use Rattle.tracker.specs.Refusal.{toldCheck};
@@ -13,14 +13,14 @@ use crate::Answer;
 use crate::refusals;
 use bits::BitsRead;
 use bits::BitsWritten;
-use bits::Extended;
-use bits::as_unsigned;
 use decoder::Decoded;
 use decoder::ImageLen;
 use encoder::Encoded;
 use encoder::EncodedLen;
 use lookup::FoundSeq;
 use lookup::FoundTs;
+use signed::Extended;
+use signed::as_unsigned;
 use store::Saved;
 use tracker::Checked;
 

@@ -1,7 +1,7 @@
 // A refusal's number, and what it also tells.
 ghost use mathlib.Core.Path.{_≡_};
 ghost use Rattle.gorilla.specs.Array.{arrayNo};
-ghost use Rattle.arrays.specs.Refusal.{numbers};
+ghost use Rattle.array_reader.specs.Refusal.{numbers};
 ghost use Rattle.encoder.specs.Encode as encoding;
 ghost use Rattle.tracker.specs.Refusal as table;
 ghost use Rattle.answers.specs.Answer.{refusedBy};

@@ -7,7 +7,7 @@ use native.Mathlib.Omega.{arith}
 use lib.ListN.{length}
 use lib.Dec.{ltb}
 use borrow.Author.Tests.{lt-ltb, le-ltb, ltb-true, ltb-false}
-use Rattle.bits.specs.Told.{Told, gave, refused}
+use Rattle.told.specs.Told.{Told, gave, refused}
 use Rattle.bits.specs.Bits.{bitsAt, putBits}
 use Rattle.bits.specs.Place.{posOf, placeOf}
 use Rattle.bits.specs.Read.{Piece, readRule, toldRead}

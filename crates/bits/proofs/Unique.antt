@@ -3,31 +3,17 @@ use Prim.Native.Nat.{ℕ}
 use mathlib.Core.Path.{_≡_, refl, sym, ap, _∙_}
 use mathlib.Core.List.{List, [], _∷_}
 use native.Mathlib.Omega.{arith}
-use lib.IntN.{ℤ}
 use denote.Ref.{now}
-use Rattle.bits.specs.Told.{Told, gave, refused}
+use Rattle.told.proofs.Unique.{given-not-refused, same-gift}
 use Rattle.bits.specs.Read.{Piece, toldRead, readRule}
 use Rattle.bits.specs.Reader.{placeIn}
 use Rattle.bits.specs.Write.{toldWrite, writeRule, written}
-use Rattle.bits.specs.Extend.{toldExtend, extendRule}
 use Rattle.bits.specs.declared.Place.{Place}
 use Rattle.bits.specs.declared.reader.BitReader.{BitReader}
 use Rattle.bits.specs.declared.BitsRead.{BitsRead}
 use Rattle.bits.specs.declared.BitsRead.the-variants as rv
 use Rattle.bits.specs.declared.BitsWritten.{BitsWritten}
 use Rattle.bits.specs.declared.BitsWritten.the-variants as wv
-use Rattle.bits.specs.declared.Extended.{Extended}
-use Rattle.bits.specs.declared.Extended.the-variants as ev
-
--- what is given is never a refusal, and refusals of two numbers are two
-pub given-not-refused : {A X : Type 0} {a : A} {l : List ℕ} → gave a ≡ refused l → X
-given-not-refused h = let z : _≡_ {A = ℕ} 0 1 = cc in absurd (omega arith)
-
-pub same-list : {A : Type 0} {k l : List ℕ} → _≡_ {A = Told A} (refused k) (refused l) → k ≡ l
-same-list h = cc
-
-pub same-gift : {A : Type 0} {a b : A} → gave a ≡ gave b → a ≡ b
-same-gift h = cc
 
 read-told : (a b : BitsRead) → toldRead a ≡ toldRead b → a ≡ b
 read-told (rv.Value v p) (rv.Value w q) h =
@@ -55,12 +41,6 @@ write-told (wv.Short n) (wv.Done q) h = given-not-refused (sym h)
 write-told (wv.Short n) wv.Width h = let z : _≡_ {A = ℕ} 21 23 = cc in absurd (omega arith)
 write-told (wv.Short n) (wv.Short m) h = cc
 
-extend-told : (a b : Extended) → toldExtend a ≡ toldExtend b → a ≡ b
-extend-told (ev.Value x) (ev.Value y) h = cc
-extend-told (ev.Value x) ev.Width h = given-not-refused h
-extend-told ev.Width (ev.Value y) h = given-not-refused (sym h)
-extend-told ev.Width ev.Width h = refl
-
 -- `read_bits`, and `read_from`, whose statement is the same
 pub one-read : (s : List ℕ) (at : Place) (n : ℕ) (a b : BitsRead) → toldRead a ≡ readRule s at n → toldRead b ≡ readRule s at n → a ≡ b
 one-read s at n a b h k = read-told a b (h ∙ sym k)
@@ -73,7 +53,3 @@ one-reader-read r n = one-read (now (r .buf)) (placeIn r) n
 pub one-write : (s : List ℕ) (at : Place) (v n : ℕ) (a b : BitsWritten) (x y : List ℕ)
     → (toldWrite a ≡ writeRule s at n) × (x ≡ written s at v n) → (toldWrite b ≡ writeRule s at n) × (y ≡ written s at v n) → (a ≡ b) × (x ≡ y)
 one-write s at v n a b x y h k = (write-told a b (h .0 ∙ sym (k .0)), h .1 ∙ sym (k .1))
-
--- `sign_extend`
-pub one-extension : (v w : ℕ) (a b : Extended) → toldExtend a ≡ extendRule v w → toldExtend b ≡ extendRule v w → a ≡ b
-one-extension v w a b h k = extend-told a b (h ∙ sym k)

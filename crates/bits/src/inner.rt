@@ -4,9 +4,7 @@ ghost use Prim.Native.Nat.{_+_, _*_, _-_, _/_, _%_, _^_, _≤_, _<_, min};
 ghost use lib.ListN.{length};
 ghost use Rattle.bits.specs.Bits.{bitAt, bitsAt, putBits};
 ghost use Rattle.bits.specs.Place.{placeOf, Settled};
-ghost use Rattle.bits.specs.Signed.{lowBits};
 use crate::Place;
-use crate::as_unsigned;
 
 fn wide(x: u8) -> u64
     ensures { λ r. ⌜ r ≡ x ⌝ }
@@ -142,12 +140,4 @@ pub fn put_bits(buf: &mut [u8], from: usize, first: u8, value: u64, width: u8)
         let z = merge(0, 0, left, field(value, 0, left));
         buf[byte] = z;
     }
-}
-
-// The low `width` bits of a signed number.
-pub fn low_bits(d: i64, width: u8) -> u64
-    requires { ⌜ width ≤ 63 ⌝ }
-    ensures { λ r. ⌜ r ≡ lowBits width d ⌝ }
-{
-    as_unsigned(d) % (1u64 << width as u64)
 }

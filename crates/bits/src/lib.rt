@@ -1,4 +1,4 @@
-// Bits in and out of bytes, most significant bit first, and signed numbers as patterns of bits.
+// Bits in and out of bytes, most significant bit first.
 //
 // slatedb's BitWriter pushes one bit at a time into a buffer that grows, and its BitReader takes one
 // bit at a time. Here a read or a write moves up to 64 bits at a place of a lent slice, a byte or more
@@ -7,17 +7,11 @@
 pub mod inner; // inner.rt: the steps, for our own crates: each has a `requires`
 mod read; // read.rt: a read of bits
 mod reader; // reader.rt: a reader, which holds the bytes and a place
-mod signed; // signed.rt: two's complement, wrapping sums, sign extension
 mod write; // write.rt: a write of bits
 
 pub use read::read_bits;
 pub use reader::BitReader;
 pub use reader::read_from;
-pub use signed::as_signed;
-pub use signed::as_unsigned;
-pub use signed::sign_extend;
-pub use signed::wrapping_add;
-pub use signed::wrapping_sub;
 pub use write::write_bits;
 
 // A place: a byte, and a bit of it, 0 the most significant. One past the end of a slice, or with a bit
@@ -45,11 +39,4 @@ pub enum BitsWritten {
     Width,
     // 21: the buffer is too short, and the bytes that it would have to have
     Short(usize),
-}
-
-// What a sign extension answers.
-pub enum Extended {
-    Value(i64),
-    // 23: a width outside 1 to 32
-    Width,
 }

@@ -9,7 +9,7 @@ use lib.Dec.{leb}
 use lib.IntN.{ℤ}
 use lib.ListN.{length, drop, length-append}
 use lib.Seq.{drop-at}
-use Rattle.bits.specs.Told.{Told, gave}
+use Rattle.told.specs.Told.{Told, gave}
 use Rattle.gorilla.specs.BitList.{bitsOf}
 use Rattle.gorilla.specs.Format.{imageBytes}
 use Rattle.gorilla.specs.Parser.{read}

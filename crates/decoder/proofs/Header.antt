@@ -8,7 +8,7 @@ use borrow.Author.Tests.{ltb-true, ltb-false, eq-eqb, ne-eqb}
 use lib.Dec.{ltb}
 use lib.IntN.{ℤ}
 use lib.ListN.{length, getD, drop}
-use Rattle.bits.specs.Signed.{pattern}
+use Rattle.signed.specs.Signed.{pattern}
 use Rattle.bits.proofs.Bits.{one-byte}
 use Rattle.gorilla.specs.BitList.{bitsOf}
 use Rattle.gorilla.specs.Parser.{read, refused, takeOff}

@@ -7,14 +7,14 @@ use native.Mathlib.Omega.{arith}
 use borrow.Author.Tests.{le-leb}
 use lib.ListN.{length, take, drop, length-drop}
 use lib.Seq.{take-all}
-use Rattle.bits.specs.Told.{gave}
-use Rattle.bits.proofs.Unique.{given-not-refused, same-gift}
+use Rattle.told.specs.Told.{gave}
+use Rattle.told.proofs.Unique.{given-not-refused, same-gift}
 use Rattle.gorilla.specs.BitList.{bitsOf}
 use Rattle.gorilla.specs.Parser.{Read, read, refused}
 use Rattle.gorilla.specs.Reading.{Pairs, readImage}
 use Rattle.gorilla.proofs.Bridge.{length-bitsOf}
 use Rattle.decoder.specs.Decode.{lenOf, lenRule}
-use Rattle.arrays.specs.Steps.{Agrees}
+use Rattle.array_reader.specs.Steps.{Agrees}
 
 -- every count of 32 bits is at most 2^32 - 1
 pub no-limit : Agrees 4294967295 (λ n. true)

@@ -2,4 +2,3 @@ pub mod Header
 pub mod Lengths
 pub mod Following
 pub mod Unique
-pub mod Cases

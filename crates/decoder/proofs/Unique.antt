@@ -3,8 +3,8 @@ use Prim.Native.Nat.{ℕ}
 use mathlib.Core.Path.{_≡_, sym, ap, _∙_}
 use mathlib.Core.List.{List}
 use lib.IntN.{ℤ}
-use Rattle.bits.proofs.Unique.{given-not-refused, same-list, same-gift}
-use Rattle.arrays.proofs.Unique.{one-refusal}
+use Rattle.told.proofs.Unique.{given-not-refused, same-list, same-gift}
+use Rattle.array_reader.proofs.Unique.{one-refusal}
 use Rattle.decoder.specs.Decode.{toldDecode, decodeRule, seqsAfter, secsAfter, toldLen, lenRule, restRule, restFrom, onwards}
 use Rattle.decoder.specs.declared.Decoded.{Decoded}
 use Rattle.decoder.specs.declared.Decoded.the-variants as d

@@ -5,13 +5,13 @@ use mathlib.Core.List.{List}
 use lib.Dec.{leb}
 use lib.ListN.{length, drop}
 use lib.IntN.{ℤ}
-use Rattle.bits.specs.Over.{over}
-use Rattle.bits.specs.Told.{Told, gave}
-use Rattle.bits.specs.Told as told
+use Rattle.told.specs.Over.{over}
+use Rattle.told.specs.Told.{Told, gave}
+use Rattle.told.specs.Told as told
 use Rattle.gorilla.specs.Parser.{Read, read}
 use Rattle.gorilla.specs.Parser as parser
 use Rattle.gorilla.specs.Reading.{Pairs, readImage}
-use Rattle.arrays.specs.Refusal.{numbers}
+use Rattle.array_reader.specs.Refusal.{numbers}
 use Rattle.decoder.specs.declared.Decoded.{Decoded}
 use Rattle.decoder.specs.declared.Decoded.the-variants as d
 use Rattle.decoder.specs.declared.ImageLen.{ImageLen}

@@ -4,8 +4,8 @@ use mathlib.Core.Path.{_≡_}
 use mathlib.Core.List.{List, _++_}
 use lib.ListN.{length}
 use lib.IntN.{ℤ}
-use Rattle.bits.specs.Over.{over}
-use Rattle.bits.specs.Told.{gave}
+use Rattle.told.specs.Over.{over}
+use Rattle.told.specs.Told.{gave}
 use Rattle.gorilla.specs.Format.{imageBytes}
 use Rattle.gorilla.specs.Reading.{Pairs}
 use Rattle.gorilla.specs.RoundTrip.{Fit}

@@ -3,12 +3,12 @@ use Prim.Native.Nat.{ℕ, _+_, _*_, _≤_}
 use mathlib.Core.Bool.{Bool}
 use mathlib.Core.List.{List, map}
 use lib.ListN.{drop, getD, length}
-use Rattle.bits.specs.Signed.{pattern}
+use Rattle.signed.specs.Signed.{pattern}
 use Rattle.gorilla.specs.BitList.{bitsOf}
 use Rattle.gorilla.specs.Parser.{Read, read, refused, Reader, _>>=_, give}
 use Rattle.gorilla.specs.Reading.{readPart, Pairs}
-use Rattle.arrays.specs.Refusal.{numbers}
-use Rattle.arrays.specs.Steps.{arrayAt, passedAt}
+use Rattle.array_reader.specs.Refusal.{numbers}
+use Rattle.array_reader.specs.Steps.{arrayAt, passedAt}
 use Rattle.decoder.specs.declared.image.Parts.{Parts}
 use Rattle.decoder.specs.declared.image.ImageScan.{ImageScan}
 use Rattle.decoder.specs.declared.image.ImageScan.the-variants as m

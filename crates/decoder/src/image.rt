@@ -5,11 +5,11 @@ ghost use Prim.Native.Nat.{ℕ, _≤_, _<_};
 ghost use lib.ListN.{length, drop};
 ghost use Rattle.gorilla.specs.BitList.{bitsOf};
 ghost use Rattle.gorilla.specs.Reading.{readImage};
-ghost use Rattle.arrays.specs.Steps.{Agrees};
+ghost use Rattle.array_reader.specs.Steps.{Agrees};
 ghost use Rattle.decoder.specs.Parts.{leAt, readArrays, toldImage, PassedImage};
-use arrays::Refusal;
-use arrays::inner::ArrayScan;
-use arrays::inner::scan_array;
+use array_reader::Refusal;
+use array_reader::inner::ArrayScan;
+use array_reader::inner::scan_array;
 use bits::Place;
 use gorilla::Array;
 

@@ -6,8 +6,8 @@ use crate::Decoded;
 use crate::ImageLen;
 use crate::image::ImageScan;
 use crate::image::scan_image;
-use arrays::inner::fill_secs;
-use arrays::inner::fill_seqs;
+use array_reader::inner::fill_secs;
+use array_reader::inner::fill_seqs;
 
 // The greatest count that 32 bits hold.
 const MOST: usize = 4294967295;

@@ -1,4 +1,3 @@
 pub mod Whole
 pub mod Rules
 pub mod Unique
-pub mod Cases

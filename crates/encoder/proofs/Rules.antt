@@ -7,8 +7,8 @@ use borrow.Author.Tests.{lt-ltb, le-ltb, ltb-true, ltb-false, eqb-true, eqb-fals
 use lib.Dec.{eqb, ltb}
 use lib.ListN.{length}
 use lib.IntN.{ℤ}
-use Rattle.bits.specs.Told.{Told, gave, refused}
-use Rattle.bits.proofs.Unique.{given-not-refused, same-gift}
+use Rattle.told.specs.Told.{Told, gave, refused}
+use Rattle.told.proofs.Unique.{given-not-refused, same-gift}
 use Rattle.encoder.specs.Encode.{arraysRule, roomRule}
 
 module _ (seqs : List ℕ) (secs : List ℤ) where

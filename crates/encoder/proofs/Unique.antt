@@ -5,8 +5,8 @@ use mathlib.Core.List.{List, [], _∷_}
 use native.Mathlib.Omega.{arith}
 use lib.ListN.{length}
 use lib.IntN.{ℤ}
-use Rattle.bits.specs.Told.{Told}
-use Rattle.bits.proofs.Unique.{given-not-refused, same-list}
+use Rattle.told.specs.Told.{Told}
+use Rattle.told.proofs.Unique.{given-not-refused, same-list}
 use Rattle.gorilla.specs.Array.{arrayNo}
 use Rattle.gorilla.specs.declared.Array.{Array}
 use Rattle.gorilla.specs.declared.Array.the-variants.{Sequences, Seconds}

@@ -7,12 +7,12 @@ use native.Mathlib.Omega.{arith}
 use lib.ListN.{length, set, drop, length-append, length-map}
 use lib.Seq.{sets, sets-eq}
 use lib.IntN.{ℤ}
-use Rattle.bits.specs.Over.{over}
-use Rattle.bits.specs.Signed.{signed}
+use Rattle.told.specs.Over.{over}
+use Rattle.signed.specs.Signed.{signed}
 use Rattle.gorilla.specs.BitList.{byteLen}
 use Rattle.gorilla.specs.Format.{arrayBits, arrayBytes, leBytes, imageBytes}
 use Rattle.gorilla.proofs.Packing.{length-packed}
-use Rattle.writer.proofs.Codes.{array-most}
+use Rattle.array_writer.proofs.Codes.{array-most}
 
 -- ---- the length
 pub image-length : (seqs : List ℕ) (secs : List ℤ)

@@ -5,8 +5,8 @@ use mathlib.Core.List.{List, [], _∷_}
 use lib.Dec.{eqb, ltb}
 use lib.ListN.{length}
 use lib.IntN.{ℤ}
-use Rattle.bits.specs.Told.{Told, gave, refused}
-use Rattle.bits.specs.Over.{over}
+use Rattle.told.specs.Told.{Told, gave, refused}
+use Rattle.told.specs.Over.{over}
 use Rattle.gorilla.specs.Array.{arrayNo}
 use Rattle.gorilla.specs.Format.{imageBytes}
 use Rattle.gorilla.specs.Wide.{Wide, none, found, wideOf}

@@ -4,7 +4,7 @@ ghost use mathlib.Core.List.{_∷_};
 ghost use Prim.Native.Nat.{_+_, _*_, _≤_};
 ghost use lib.ListN.{length};
 ghost use lib.Seq.{sets};
-ghost use Rattle.bits.specs.Over.{over};
+ghost use Rattle.told.specs.Over.{over};
 ghost use Rattle.gorilla.specs.Format.{leBytes, imageBytes};
 ghost use Rattle.encoder.specs.Encode.{toldEncode, roomRule, encodeRule, strictRule, encodedIn};
 use crate::Encoded;
@@ -12,10 +12,10 @@ use crate::EncodedLen;
 use crate::Refusal;
 use crate::len::image_bytes;
 use crate::len::most_bytes;
+use array_writer::inner::write_secs;
+use array_writer::inner::write_seqs;
 use strict::inner::FirstWide;
 use strict::inner::first_wide;
-use writer::inner::write_secs;
-use writer::inner::write_seqs;
 
 // The version, and the pair count in four bytes, the least significant first.
 fn write_header(out: &mut [u8], count: usize)

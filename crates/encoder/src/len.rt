@@ -3,18 +3,18 @@ ghost use mathlib.Core.Path.{_≡_};
 ghost use mathlib.Core.List.{map};
 ghost use Prim.Native.Nat.{_+_, _*_, _≤_};
 ghost use lib.ListN.{length};
-ghost use Rattle.bits.specs.Signed.{signed};
-ghost use Rattle.bits.specs.Told.{gave};
+ghost use Rattle.signed.specs.Signed.{signed};
+ghost use Rattle.told.specs.Told.{gave};
 ghost use Rattle.gorilla.specs.Format.{codeBits, arrayBits, imageBytes};
 ghost use Rattle.encoder.specs.Encode.{toldLen, arraysRule, lenRule};
 use crate::EncodedLen;
 use crate::Refusal;
+use array_writer::inner::RUN;
+use array_writer::inner::even_secs;
+use array_writer::inner::even_seqs;
 use gorilla::Track;
 use gorilla::inner::advance;
 use gorilla::inner::row_of;
-use writer::inner::RUN;
-use writer::inner::even_secs;
-use writer::inner::even_seqs;
 
 // The values that an array to encode may have.
 const MOST: usize = 65536;
@@ -36,13 +36,13 @@ fn seqs_bits(seqs: &[u64]) -> usize
         return 32;
     }
     let mut t = Track {
-        prev: bits::as_signed(seqs[0]),
+        prev: signed::as_signed(seqs[0]),
         delta: 0,
     };
     let mut total: usize = 96;
     let mut i: usize = 1;
     while i < seqs.len() {
-        let c = advance(t, bits::as_signed(seqs[i]));
+        let c = advance(t, signed::as_signed(seqs[i]));
         let next = c.next;
         t = next;
         i += 1;
@@ -51,7 +51,7 @@ fn seqs_bits(seqs: &[u64]) -> usize
             if even_seqs(seqs, i, t) {
                 i += RUN;
                 total += RUN;
-                t.prev = bits::as_signed(seqs[i - 1]);
+                t.prev = signed::as_signed(seqs[i - 1]);
             }
             continue;
         }

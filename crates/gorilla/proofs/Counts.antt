@@ -8,7 +8,7 @@ use borrow.Author.Tests.{eqb-true}
 use lib.Dec.{eqb}
 use lib.ListN.{length, length-map}
 use lib.IntN.{ℤ, pos}
-use Rattle.bits.specs.Signed.{signed, pattern}
+use Rattle.signed.specs.Signed.{signed, pattern}
 use Rattle.gorilla.specs.Parser.{Read, read, refused, Reader, andThen, require, takeBits}
 use Rattle.gorilla.specs.Reading.{readCode, readCodes, valuesAfter, readValues, readArray, leCount, readPart, Pairs, readPairs, readImage}
 use Rattle.gorilla.proofs.ImageTrip.{length-after}

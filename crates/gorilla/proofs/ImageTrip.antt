@@ -12,8 +12,8 @@ use lib.IntN.{ℤ, pos}
 use mir.Syntax.{w64}
 use mir.Val.{SFits}
 use mir.Facts.{sfits-toZ}
-use Rattle.bits.specs.Signed.{signed, pattern, subS, addS}
-use Rattle.bits.proofs.Wrapping.{pattern-signed}
+use Rattle.signed.specs.Signed.{signed, pattern, subS, addS}
+use Rattle.signed.proofs.Wrapping.{pattern-signed}
 use Rattle.gorilla.specs.BitList.{natBits, bitsOf, byteLen, packed}
 use Rattle.gorilla.specs.Parser.{Read, read, refused, takeOff, takeBits, andThen}
 use Rattle.gorilla.specs.Format.{codeBits, codesBits, valuesBits, arrayBits, arrayBytes, leBytes, imageBytes}

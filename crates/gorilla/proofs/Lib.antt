@@ -8,5 +8,4 @@ pub mod ImageTrip
 pub mod Putting
 pub mod Readers
 pub mod RoundTrip
-pub mod Cases
 pub mod Counts

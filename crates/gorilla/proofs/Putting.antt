@@ -13,7 +13,7 @@ use Rattle.bits.specs.Place.{placeOf}
 use Rattle.bits.specs.declared.Place.{Place}
 use Rattle.bits.proofs.Bits.{putBits-add}
 use Rattle.gorilla.specs.declared.Row.{Row}
-use Rattle.bits.specs.Signed.{subS}
+use Rattle.signed.specs.Signed.{subS}
 use Rattle.gorilla.specs.Rows.{rowOf}
 use Rattle.gorilla.specs.BitList.{natBits}
 use Rattle.gorilla.specs.Places.{putList}

@@ -11,7 +11,7 @@ use lib.Signed.{leZ, ltZ, mag}
 use mir.Syntax.{w64}
 use mir.Val.{SFits, ofZ, toZ}
 use mir.Facts.{toZ-ofZ}
-use Rattle.bits.proofs.Signs.{never, nevers}
+use Rattle.signed.proofs.Signs.{never, nevers}
 
 -- a test and true is the test
 and-true : (b : Bool) → (b && true) ≡ b

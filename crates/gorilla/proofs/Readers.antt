@@ -6,11 +6,11 @@ use native.Mathlib.Omega.{arith}
 use borrow.Author.Tests.{ne-eqb}
 use lib.ListN.{length, drop, getD}
 use lib.IntN.{ℤ, pos}
-use Rattle.bits.specs.declared.Extended.the-variants as ev
-use Rattle.bits.specs.Extend.{extend, extendRule, toldExtend}
+use Rattle.signed.specs.declared.Extended.the-variants as ev
+use Rattle.signed.specs.Extend.{extend, extendRule, toldExtend}
 use Rattle.gorilla.specs.Rows.{decoded}
 use Rattle.gorilla.specs.Rows.{widths}
-use Rattle.bits.proofs.Widths.{taken}
+use Rattle.signed.proofs.Widths.{taken}
 use Rattle.bits.specs.Bits.{bitsAt}
 use Rattle.bits.specs.Place.{posOf, placeOf}
 use Rattle.bits.specs.Read.{readRule, toldRead}

@@ -10,9 +10,9 @@ use lib.IntN.{ℤ, pos}
 use mir.Syntax.{w64}
 use mir.Val.{SFits}
 use mir.Facts.{sfits-toZ}
-use Rattle.bits.specs.Signed.{signed, pattern, addS, subS}
+use Rattle.signed.specs.Signed.{signed, pattern, addS, subS}
 use Rattle.gorilla.specs.Rows.{strict}
-use Rattle.bits.proofs.Wrapping.{pattern-signed, signed-pattern}
+use Rattle.signed.proofs.Wrapping.{pattern-signed, signed-pattern}
 use Rattle.gorilla.specs.BitList.{bitsOf}
 use Rattle.gorilla.specs.Parser.{Read, read}
 use Rattle.gorilla.specs.Format.{imageBytes}

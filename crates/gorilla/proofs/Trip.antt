@@ -15,11 +15,11 @@ use mir.Syntax.{w64}
 use mir.Val.{SFits}
 use mir.Facts.{sfits-toZ}
 use Rattle.gorilla.specs.declared.Row.{Row}
-use Rattle.bits.specs.Signed.{signed, pattern, addW, subW, addS, subS, lowBits}
-use Rattle.bits.specs.Extend.{extend, signedOf}
+use Rattle.signed.specs.Signed.{signed, pattern, addW, subW, addS, subS, lowBits}
+use Rattle.signed.specs.Extend.{extend, signedOf}
 use Rattle.gorilla.specs.Rows.{row, rowAt, rowOf, decoded, widths, strict}
-use Rattle.bits.proofs.Wrapping.{pattern-signed, signed-pattern, addS-subS, sub-add, sub-lt}
-use Rattle.bits.proofs.Widths.{two-halves, read-low, read-high}
+use Rattle.signed.proofs.Wrapping.{pattern-signed, signed-pattern, addS-subS, sub-add, sub-lt}
+use Rattle.signed.proofs.Widths.{two-halves, read-low, read-high}
 use Rattle.gorilla.specs.BitList.{natBits}
 use Rattle.gorilla.specs.Parser.{Read, read, refused, takeOff, andThen}
 use Rattle.gorilla.specs.Format.{codeBits, codesBits, valuesBits, arrayBits}

@@ -3,7 +3,7 @@ use Prim.Native.Nat.{ℕ, zero, suc, _/_, _%_}
 use mathlib.Core.List.{List, [], _∷_, _++_, map}
 use lib.ListN.{length}
 use lib.IntN.{ℤ, pos}
-use Rattle.bits.specs.Signed.{signed, pattern, subS, lowBits}
+use Rattle.signed.specs.Signed.{signed, pattern, subS, lowBits}
 use Rattle.gorilla.specs.Rows.{rowOf}
 use Rattle.gorilla.specs.BitList.{natBits, packed}
 

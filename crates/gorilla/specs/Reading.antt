@@ -5,7 +5,7 @@ use mathlib.Core.List.{List, [], _∷_, map}
 use lib.Dec.{eqb}
 use lib.ListN.{length, getD, drop}
 use lib.IntN.{ℤ, pos}
-use Rattle.bits.specs.Signed.{signed, pattern, addS}
+use Rattle.signed.specs.Signed.{signed, pattern, addS}
 use Rattle.gorilla.specs.Rows.{widths, decoded}
 use Rattle.gorilla.specs.Parser.{Read, read, refused, Reader, _>>=_, _>>_, give, require, takeBits, align}
 use Rattle.gorilla.specs.BitList.{bitsOf}

@@ -6,7 +6,7 @@ use lib.Dec.{leb, eqb}
 use lib.IntN.{ℤ, pos, negsuc, natAbs}
 use lib.Signed.{leZ}
 use mir.Val.{sel}
-use Rattle.bits.specs.Extend.{extend}
+use Rattle.signed.specs.Extend.{extend}
 use Rattle.gorilla.specs.declared.Row.{Row}
 
 -- the widths by the count of ones

@@ -1,6 +1,6 @@
 -- From value to value: all differences wrap at 64 bits.
 use lib.IntN.{ℤ}
-use Rattle.bits.specs.Signed.{subS, addS}
+use Rattle.signed.specs.Signed.{subS, addS}
 use Rattle.gorilla.specs.declared.Track.{Track}
 use Rattle.gorilla.specs.declared.Coded.{Coded}
 

@@ -4,7 +4,7 @@ use Prim.Native.Nat.{ℕ, _+_}
 use mathlib.Core.Bool.{cond}
 use mathlib.Core.List.{List, [], _∷_, map}
 use lib.IntN.{ℤ, pos}
-use Rattle.bits.specs.Signed.{signed, subS}
+use Rattle.signed.specs.Signed.{signed, subS}
 use Rattle.gorilla.specs.Rows.{strict}
 
 -- its array and its index, if there is one

@@ -7,17 +7,17 @@ ghost use Rattle.gorilla.specs.Steps.{advanced, followed};
 use crate::Coded;
 use crate::Row;
 use crate::Track;
-use bits::Extended;
+use signed::Extended;
 
 // Indicates how many bits to read given the Gorilla prefix.
-pub const GORILLA_PREFIX_BITS: [u8; 5] = [0, 7, 9, 12, 32];
+pub const GORILLA_PREFIX_BYTES: [u8; 5] = [0, 7, 9, 12, 32];
 
 // The width after a prefix of so many ones.
 pub fn width_of(ones: usize) -> u8
     requires { ⌜ ones ≤ 4 ⌝ }
     ensures { λ r. ⌜ r ≡ getD widths ones 0 ⌝ }
 {
-    GORILLA_PREFIX_BITS[ones]
+    GORILLA_PREFIX_BYTES[ones]
 }
 
 // The row of a difference of deltas: the first that matches.
@@ -67,8 +67,8 @@ pub fn is_strict(dod: i64) -> bool
 pub fn advance(t: Track, val: i64) -> Coded
     ensures { λ r. ⌜ r ≡ advanced t val ⌝ }
 {
-    let delta = bits::wrapping_sub(val, t.prev);
-    let dod = bits::wrapping_sub(delta, t.delta);
+    let delta = signed::wrapping_sub(val, t.prev);
+    let dod = signed::wrapping_sub(delta, t.delta);
     Coded {
         dod: dod,
         next: Track {
@@ -82,9 +82,9 @@ pub fn advance(t: Track, val: i64) -> Coded
 pub fn follow(t: Track, dod: i64) -> Track
     ensures { λ r. ⌜ r ≡ followed t dod ⌝ }
 {
-    let delta = bits::wrapping_add(t.delta, dod);
+    let delta = signed::wrapping_add(t.delta, dod);
     Track {
-        prev: bits::wrapping_add(t.prev, delta),
+        prev: signed::wrapping_add(t.prev, delta),
         delta: delta,
     }
 }
@@ -94,7 +94,7 @@ pub fn diff_of(raw: u64, width: u8) -> i64
     requires { ⌜ (raw < 2 ^ 32) × (width ≤ 32) ⌝ }
     ensures { λ r. ⌜ r ≡ decoded width raw ⌝ }
 {
-    match bits::sign_extend(raw as u32, width) {
+    match signed::sign_extend(raw as u32, width) {
         Extended::Value(d) => d,
         Extended::Width => 0,
     }

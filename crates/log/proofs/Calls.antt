@@ -26,7 +26,7 @@ use denote.Struct.Laws as LL
 use denote.Triple.Statement.{Contract}
 use denote.Triple.Spec.{tripleOf}
 use denote.Triple.Walked.{says}
-use Rattle.bits.specs.Told.{gave}
+use Rattle.told.specs.Told.{gave}
 use Rattle.tracker.specs.Table.{checkOf}
 use Rattle.tracker.specs.declared.TrackedSeq.{TrackedSeq}
 use Rattle.tracker.specs.declared.SequenceTracker.{SequenceTracker}

@@ -2,7 +2,6 @@
 pub mod Run
 pub mod Preserved
 pub mod Unique
-pub mod Cases
 mod Moved
 mod Records
 mod Again

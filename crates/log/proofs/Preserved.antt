@@ -7,7 +7,7 @@ use Prim.Native.Nat.{ℕ, suc, _+_, _-_, _<_}
 use native.Mathlib.Omega.{arith}
 use lib.ListN.{length, getD, length-append}
 use lib.Seq.{getD-append-seam}
-use Rattle.bits.specs.Told.{Told, gave, refused}
+use Rattle.told.specs.Told.{Told, gave, refused}
 use Rattle.tracker.specs.Domain.{outside}
 use Rattle.tracker.specs.Table.{checkOf}
 use Rattle.tracker.specs.declared.TrackedSeq.{TrackedSeq}

@@ -5,7 +5,7 @@ use mathlib.Core.List.{List, [], _∷_, _++_}
 use Prim.Native.Nat.{ℕ}
 use lib.Dec.{eqb}
 use lib.IntN.{ℤ}
-use Rattle.bits.specs.Told.{Told, gave, refused}
+use Rattle.told.specs.Told.{Told, gave, refused}
 use Rattle.tracker.specs.Refusal.{told}
 use Rattle.tracker.specs.declared.Refusal.{Refusal}
 use Rattle.tracker.specs.declared.Refusal.the-variants.{Disagrees, SequenceDrops, SecondDrops, SecondOutside, Settings, OfferedOutside, OfferedDrops}

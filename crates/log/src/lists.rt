@@ -5,7 +5,7 @@ ghost use Prim.Native.Nat.{_≤_, _<_};
 ghost use lib.Dec.{ltb};
 ghost use lib.ListN.{length, getD, take};
 ghost use lib.IntN.{pos};
-ghost use Rattle.bits.specs.Told.{gave};
+ghost use Rattle.told.specs.Told.{gave};
 ghost use Rattle.tracker.specs.Table.{checkOf};
 ghost use Rattle.log.specs.Log.{toldLog, pairOf, recordsOf, atStart, runOf};
 ghost use Rattle.log.specs.Extend.{ownTable, ofTable, toldExtended};

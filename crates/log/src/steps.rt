@@ -2,7 +2,7 @@
 ghost use mathlib.Core.Path.{_≡_};
 ghost use mathlib.Core.List.{[], _∷_};
 ghost use Prim.Native.Nat.{_+_, _<_, _^_};
-ghost use Rattle.bits.specs.Told.{gave};
+ghost use Rattle.told.specs.Told.{gave};
 ghost use Rattle.tracker.specs.Table.{checkOf};
 ghost use Rattle.log.specs.Log.{toldLog, runOf, logOf};
 ghost use Rattle.log.specs.Progress.{toldProgress, leftBy, standing, endOf, goingOf, stoppedOf};

@@ -11,7 +11,7 @@ use lib.Dec.{ltb}
 use lib.IntN.{pos}
 use lib.ListN.{getD, take}
 use lib.Signed.{ltZ}
-use Rattle.bits.specs.Told.{Told, gave, refused}
+use Rattle.told.specs.Told.{Told, gave, refused}
 use Rattle.tracker.specs.First.{first, lastOr}
 use Rattle.tracker.specs.Refusal.{ifGood}
 use Rattle.tracker.specs.Table.{checkOf}

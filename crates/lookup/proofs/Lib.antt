@@ -3,4 +3,3 @@ pub mod Bound
 pub mod Place
 pub mod Laws
 pub mod Unique
-mod Cases

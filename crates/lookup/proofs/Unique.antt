@@ -1,6 +1,6 @@
 -- No second answer fits a lookup's statement: the answer can be had back from what is told.
 use mathlib.Core.Path.{_≡_, refl, ap}
-use Rattle.bits.specs.Told.{Told, gave, refused}
+use Rattle.told.specs.Told.{Told, gave, refused}
 use Rattle.tracker.specs.declared.Seq.{Seq}
 use Rattle.tracker.specs.declared.Second.{Second}
 use Rattle.tracker.proofs.Unique.{undone, refusalOf, refusal-back}

@@ -6,7 +6,7 @@ use lib.Dec.{ltb}
 use lib.IntN.{ℤ, pos}
 use lib.ListN.{getD}
 use lib.Signed.{ltZ}
-use Rattle.bits.specs.Told.{Told, gave}
+use Rattle.told.specs.Told.{Told, gave}
 use Rattle.tracker.specs.First.{first, final}
 use Rattle.tracker.specs.Refusal.{ifGood}
 use Rattle.tracker.specs.Table.{checkOf}

@@ -1,5 +1,5 @@
 -- What a lookup tells: the partner, nothing, or document 01's number and what it also tells.
-use Rattle.bits.specs.Told.{Told, gave, refused}
+use Rattle.told.specs.Told.{Told, gave, refused}
 use Rattle.tracker.specs.Refusal.{told}
 use Rattle.tracker.specs.declared.Seq.{Seq}
 use Rattle.tracker.specs.declared.Second.{Second}

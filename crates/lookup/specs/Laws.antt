@@ -8,7 +8,7 @@ use lib.Dec.{ltb}
 use lib.IntN.{ℤ, pos}
 use lib.ListN.{length}
 use lib.Signed.{ltZ}
-use Rattle.bits.specs.Told.{gave}
+use Rattle.told.specs.Told.{gave}
 use Rattle.tracker.specs.Settings.{roomOf}
 use Rattle.tracker.specs.Table.{kept, checkOf}
 use Rattle.tracker.specs.declared.Seq.{Seq}

@@ -7,4 +7,3 @@ pub mod Preserved
 pub mod Alike
 pub mod Newest
 pub mod Unique
-pub mod Cases

@@ -7,7 +7,7 @@ use native.Mathlib.Omega.{arith}
 use borrow.Author.Tests.{le-ltb, lt-ltb, ne-eqb}
 use lib.IntN.{ℤ, pos}
 use lib.ListN.{length, getD}
-use Rattle.bits.specs.Told.{gave}
+use Rattle.told.specs.Told.{gave}
 use Rattle.tracker.specs.Settings.{roomOf}
 use Rattle.tracker.specs.Table.{kept}
 use Rattle.tracker.specs.declared.Seq.{Seq}

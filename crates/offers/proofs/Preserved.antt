@@ -12,8 +12,8 @@ use lib.IntN.{ℤ, pos, negsuc, _-ℤ_}
 use lib.ListN.{length, getD}
 use lib.Seq.{take-at}
 use lib.Signed.{ltZ}
-use Rattle.bits.specs.Told.{Told, gave, refused}
-use Rattle.bits.specs.Over.{over}
+use Rattle.told.specs.Told.{Told, gave, refused}
+use Rattle.told.specs.Over.{over}
 use Rattle.tracker.specs.Domain.{outside}
 use Rattle.tracker.specs.Refusal.{ifGood}
 use Rattle.tracker.specs.Settings.{roomOf}

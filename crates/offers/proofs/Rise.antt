@@ -8,7 +8,7 @@ use native.Mathlib.Nat.{eq-or-lt-of-le}
 use native.Mathlib.Omega.{arith}
 use borrow.Author.Tests.{le-ltb, lt-ltb}
 use lib.ListN.{length, getD, drop, length-append, length-drop, List·getD-append}
-use Rattle.bits.specs.Over.{over}
+use Rattle.told.specs.Over.{over}
 use Rattle.tracker.specs.Table.{drops}
 use Rattle.tracker.proofs.Bools.{below-or}
 use Rattle.tracker.proofs.Order.{Order, rises, itself}

@@ -6,8 +6,8 @@ use lib.Dec.{ltb, eqb}
 use lib.IntN.{ℤ, pos, _-ℤ_}
 use lib.ListN.{length, getD}
 use lib.Signed.{ltZ}
-use Rattle.bits.specs.Told.{Told, gave, refused}
-use Rattle.bits.specs.Over.{over}
+use Rattle.told.specs.Told.{Told, gave, refused}
+use Rattle.told.specs.Over.{over}
 use Rattle.tracker.specs.Domain.{outside}
 use Rattle.tracker.specs.Refusal.{told, ifGood}
 use Rattle.tracker.specs.Table.{checkOf}

@@ -1,6 +1,6 @@
 // An offer to a table that is known to be good, for callers that have checked it.
 ghost use mathlib.Core.Path.{_≡_};
-ghost use Rattle.bits.specs.Told.{gave};
+ghost use Rattle.told.specs.Told.{gave};
 ghost use Rattle.tracker.specs.Table.{checkOf};
 ghost use Rattle.offers.specs.Offer.{toldOffer, offerOf, after};
 use crate::Offered;

@@ -3,7 +3,7 @@
 ghost use mathlib.Core.Path.{_≡_};
 ghost use Prim.Native.Nat.{_≤_, _<_};
 ghost use lib.ListN.{length};
-ghost use Rattle.bits.specs.Over.{over};
+ghost use Rattle.told.specs.Over.{over};
 ghost use Rattle.offers.specs.Keep.{appended, thinned, countWith};
 
 // The positions that stay, counted from 0: the first, then every second one.

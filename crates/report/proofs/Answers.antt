@@ -8,13 +8,13 @@ use lib.IntN.{ℤ, pos}
 use lib.ListN.{length, drop, length-append, List·getD-append}
 use lib.Seq.{sets-eq}
 use borrow.Author.Tests.{lt-ltb, le-ltb}
-use Rattle.bits.specs.Over.{over}
-use Rattle.bits.proofs.Unique.{given-not-refused, same-list, same-gift}
+use Rattle.told.specs.Over.{over}
+use Rattle.told.proofs.Unique.{given-not-refused, same-list, same-gift}
 use Rattle.gorilla.specs.Parser.{Read, read, refused}
 use Rattle.gorilla.specs.Reading.{Pairs, readImage}
-use Rattle.arrays.specs.Refusal.{numbers}
+use Rattle.array_reader.specs.Refusal.{numbers}
 use Rattle.decoder.specs.Decode.{toldDecode, listed, countOf, decodeRule, seqsOver, secsOver, seqsAfter, secsAfter}
-use Rattle.arrays.specs.declared.Refusal.{Refusal}
+use Rattle.array_reader.specs.declared.Refusal.{Refusal}
 use Rattle.decoder.specs.declared.Decoded.{Decoded}
 use Rattle.decoder.specs.declared.Decoded.the-variants as d
 use Rattle.report.specs.Ascii.{ascii}

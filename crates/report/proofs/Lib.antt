@@ -3,4 +3,3 @@ pub mod Numbers
 pub mod Reading
 pub mod Answers
 pub mod Unique
-pub mod Cases

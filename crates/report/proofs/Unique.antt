@@ -3,7 +3,7 @@ use Prim.Native.Nat.{ℕ}
 use mathlib.Core.Path.{_≡_, sym, _∙_}
 use mathlib.Core.List.{List}
 use lib.ListN.{length}
-use Rattle.bits.specs.Over.{over}
+use Rattle.told.specs.Over.{over}
 use Rattle.report.specs.Listing.{listingOf}
 
 -- `listing`: its answer, and the buffer

@@ -7,7 +7,7 @@ use lib.IntN.{ℤ}
 use lib.ListN.{length, getD}
 use Rattle.gorilla.specs.Parser.{Read, read, refused}
 use Rattle.gorilla.specs.Reading.{Pairs, readImage}
-use Rattle.arrays.specs.Refusal.{numbers}
+use Rattle.array_reader.specs.Refusal.{numbers}
 use Rattle.decoder.specs.declared.Decoded.{Decoded}
 use Rattle.decoder.specs.declared.Decoded.the-variants as d
 use Rattle.report.specs.Text.{entriesText, refusedText}

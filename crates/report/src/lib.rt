@@ -2,7 +2,7 @@
 // number by which they are refused.
 ghost use mathlib.Core.Path.{_≡_};
 ghost use lib.ListN.{length};
-ghost use Rattle.bits.specs.Over.{over};
+ghost use Rattle.told.specs.Over.{over};
 ghost use Rattle.report.specs.Listing.{listingOf, answerText, Held};
 
 mod lines; // lines.rt: the lines of a listing

@@ -1,7 +1,7 @@
 // The number of a refusal, which is all that a listing tells of it.
 ghost use mathlib.Core.Path.{_≡_};
 ghost use Rattle.report.specs.Listing.{numberOf};
-ghost use Rattle.arrays.specs.Refusal.{numbers};
+ghost use Rattle.array_reader.specs.Refusal.{numbers};
 use decoder::Refusal;
 
 pub fn number(r: Refusal) -> u64

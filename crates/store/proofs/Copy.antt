@@ -6,7 +6,7 @@ use native.Mathlib.Numerals.{add-one}
 use native.Mathlib.Omega.{arith}
 use lib.ListN.{length, getD, take, drop, set, length-append, length-drop}
 use lib.Seq.{drop-cons, set-at, take-suc, length-take-le}
-use Rattle.bits.specs.Over.{over}
+use Rattle.told.specs.Over.{over}
 
 module _ {A : Type 0} (d : A) (l xs : List A) where
   pub copy-more : (i : ℕ) → i < length l → i < length xs → set (over (take i l) xs) i (getD l i d) ≡ over (take (i + 1) l) xs

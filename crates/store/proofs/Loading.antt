@@ -9,8 +9,8 @@ use lib.Dec.{leb, eqb}
 use lib.ListN.{length, getD, take, drop, length-append}
 use lib.Seq.{take-at, take-all}
 use lib.IntN.{ℤ, pos}
-use Rattle.bits.specs.Told.{Told, gave, refused}
-use Rattle.bits.specs.Over.{over}
+use Rattle.told.specs.Told.{Told, gave, refused}
+use Rattle.told.specs.Over.{over}
 use Rattle.gorilla.specs.Parser.{Read, read}
 use Rattle.gorilla.specs.Parser as parser
 use Rattle.gorilla.specs.Reading.{Pairs, readImage}

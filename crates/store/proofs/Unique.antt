@@ -6,8 +6,8 @@ use mathlib.Core.List.{List, [], _∷_}
 use native.Mathlib.Omega.{arith}
 use lib.ListN.{length, getD}
 use lib.IntN.{ℤ}
-use Rattle.bits.specs.Told.{Told, gave, refused}
-use Rattle.bits.proofs.Unique.{given-not-refused, same-list, same-gift}
+use Rattle.told.specs.Told.{Told, gave, refused}
+use Rattle.told.proofs.Unique.{given-not-refused, same-list, same-gift}
 use Rattle.tracker.specs.Refusal.{told}
 use Rattle.tracker.specs.declared.SequenceTracker.{SequenceTracker}
 use Rattle.tracker.specs.declared.Refusal.{Refusal}
@@ -17,10 +17,10 @@ use Rattle.encoder.specs.Encode as encoder
 use Rattle.encoder.specs.declared.Refusal as enc
 use Rattle.encoder.specs.declared.Refusal.the-variants as ev
 use Rattle.encoder.proofs.Unique.{refusal-told}
-use Rattle.arrays.specs.Refusal.{numbers}
-use Rattle.arrays.specs.declared.Refusal as dec
-use Rattle.arrays.specs.declared.Refusal.the-variants as dv
-use Rattle.arrays.proofs.Unique.{one-refusal}
+use Rattle.array_reader.specs.Refusal.{numbers}
+use Rattle.array_reader.specs.declared.Refusal as dec
+use Rattle.array_reader.specs.declared.Refusal.the-variants as dv
+use Rattle.array_reader.proofs.Unique.{one-refusal}
 use Rattle.store.specs.Save.{toldSave, saveOf, saveStrictOf, savedIn}
 use Rattle.store.specs.Restore.{toldRestore, restoreOf, seqsAfter, secsAfter}
 use Rattle.store.specs.declared.Saved.{Saved}

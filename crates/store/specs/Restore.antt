@@ -5,8 +5,8 @@ use mathlib.Core.List.{List, [], _∷_}
 use lib.Dec.{leb, ltb, eqb}
 use lib.ListN.{length, getD}
 use lib.IntN.{ℤ, pos}
-use Rattle.bits.specs.Told.{Told, gave, refused}
-use Rattle.bits.specs.Over.{over}
+use Rattle.told.specs.Told.{Told, gave, refused}
+use Rattle.told.specs.Over.{over}
 use Rattle.gorilla.specs.Parser.{Read, read}
 use Rattle.gorilla.specs.Parser as parser
 use Rattle.gorilla.specs.Reading.{Pairs, readImage}
@@ -16,7 +16,7 @@ use Rattle.tracker.specs.Table.{pairsOf}
 use Rattle.tracker.specs.declared.SequenceTracker.{SequenceTracker}
 use Rattle.tracker.specs.declared.LastRecorded.{LastRecorded}
 use Rattle.tracker.specs.declared.LastRecorded.the-variants.{Never, At}
-use Rattle.arrays.specs.Refusal.{numbers}
+use Rattle.array_reader.specs.Refusal.{numbers}
 use Rattle.store.specs.declared.Restored.{Restored}
 use Rattle.store.specs.declared.Restored.the-variants.{Table, Refused, NotDecoded}
 

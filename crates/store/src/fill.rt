@@ -2,7 +2,7 @@
 ghost use mathlib.Core.Path.{_≡_};
 ghost use Prim.Native.Nat.{_≤_};
 ghost use lib.ListN.{length, take};
-ghost use Rattle.bits.specs.Over.{over};
+ghost use Rattle.told.specs.Over.{over};
 ghost use Rattle.store.specs.Restore.{toldRestore, lastOf, settledOf, filled};
 use crate::Restored;
 use tracker::Checked;

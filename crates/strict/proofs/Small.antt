@@ -11,7 +11,7 @@ use lib.IntN.{ℤ, pos, negsuc, natAbs}
 use lib.Signed.{leZ}
 use mir.Syntax.{w64}
 use mir.Val.{SFits}
-use Rattle.bits.specs.Signed.{signed, pattern, subW, subS}
+use Rattle.signed.specs.Signed.{signed, pattern, subW, subS}
 use Rattle.gorilla.specs.declared.Track.{Track}
 use Rattle.gorilla.specs.Rows.{strict}
 use Rattle.gorilla.specs.Steps.{advanced}

@@ -9,7 +9,7 @@ use native.Mathlib.Numerals.{add-one}
 use lib.ListN.{length, getD, drop, drop-of-length-le}
 use lib.Seq.{drop-cons}
 use lib.IntN.{ℤ, pos}
-use Rattle.bits.specs.Signed.{signed}
+use Rattle.signed.specs.Signed.{signed}
 use Rattle.gorilla.specs.declared.Track.{Track}
 use Rattle.gorilla.specs.declared.Coded.{Coded}
 use Rattle.gorilla.specs.Rows.{strict}

@@ -6,14 +6,14 @@ ghost use mathlib.Core.List.{map};
 ghost use Prim.Native.Nat.{_^_, _≤_, _<_};
 ghost use lib.ListN.{length};
 ghost use lib.IntN.{natAbs};
-ghost use Rattle.bits.specs.Signed.{signed, subS};
+ghost use Rattle.signed.specs.Signed.{signed, subS};
 ghost use Rattle.gorilla.specs.Wide.{none, wideIn};
 
 // 0 where the delta between two values lies in -2^29..2^29-1.
 fn excess(to: i64, from: i64) -> u64
     ensures { λ r. ⌜ (r < 2 ^ 34) × (r ≡ 0 → natAbs (subS to from) ≤ 2 ^ 29) ⌝ }
 {
-    let delta = bits::as_unsigned(bits::wrapping_sub(to, from));
+    let delta = signed::as_unsigned(signed::wrapping_sub(to, from));
     std::num::wrapping_add_u64(delta, 536870912) >> 30
 }
 
@@ -25,7 +25,7 @@ pub fn calm_seqs(seqs: &[u64]) -> bool
     let mut sum: u64 = 0;
     let mut i: usize = 1;
     while i < seqs.len() {
-        sum += excess(bits::as_signed(seqs[i]), bits::as_signed(seqs[i - 1]));
+        sum += excess(signed::as_signed(seqs[i]), signed::as_signed(seqs[i - 1]));
         i += 1;
     }
     sum == 0

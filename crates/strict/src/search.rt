@@ -3,7 +3,7 @@ ghost use mathlib.Core.Path.{_≡_};
 ghost use mathlib.Core.List.{map};
 ghost use Prim.Native.Nat.{_≤_};
 ghost use lib.ListN.{length};
-ghost use Rattle.bits.specs.Signed.{signed};
+ghost use Rattle.signed.specs.Signed.{signed};
 ghost use Rattle.gorilla.specs.Wide.{wideIn, wideOf};
 ghost use Rattle.strict.specs.Found.{foundWide};
 use crate::FirstWide;
@@ -22,12 +22,12 @@ fn first_wide_seq(seqs: &[u64]) -> FirstWide
         return FirstWide::None;
     }
     let mut t = Track {
-        prev: bits::as_signed(seqs[0]),
+        prev: signed::as_signed(seqs[0]),
         delta: 0,
     };
     let mut i: usize = 1;
     while i < seqs.len() {
-        let c = advance(t, bits::as_signed(seqs[i]));
+        let c = advance(t, signed::as_signed(seqs[i]));
         if !is_strict(c.dod) {
             return FirstWide::At(Array::Sequences, i);
         }

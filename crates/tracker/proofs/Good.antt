@@ -9,7 +9,7 @@ use borrow.Author.Tests.{le-ltb, ltb-false, eqb-true, eqb-false}
 use lib.Dec.{ltb, eqb}
 use lib.IntN.{ℤ}
 use lib.ListN.{length}
-use Rattle.bits.specs.Told.{gave}
+use Rattle.told.specs.Told.{gave}
 use Rattle.tracker.specs.First.{first}
 use Rattle.tracker.specs.Settings.{roomOf}
 use Rattle.tracker.specs.Table.{seqDrops, secDrops, secOutside, lastMisplaced, lastOutside, lastBelow, disagrees, pairsOf, checkOf}

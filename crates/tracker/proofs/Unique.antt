@@ -5,7 +5,7 @@ use mathlib.Core.List.{List}
 use Prim.Native.Nat.{ℕ}
 use lib.Dec.{eqb}
 use lib.ListN.{getD}
-use Rattle.bits.specs.Told.{Told, gave, refused}
+use Rattle.told.specs.Told.{Told, gave, refused}
 use Rattle.tracker.specs.Refusal.{told, toldCheck, toldMade}
 use Rattle.tracker.specs.Settings.{newTable}
 use Rattle.tracker.specs.declared.SequenceTracker.{SequenceTracker}

@@ -1,7 +1,7 @@
 -- Document 01's number, and what that number also tells, for each answer of the table's calls.
 use Prim.Native.Nat.{ℕ}
 use mathlib.Core.List.{List, [], _∷_}
-use Rattle.bits.specs.Told.{Told, gave, refused}
+use Rattle.told.specs.Told.{Told, gave, refused}
 use Rattle.tracker.specs.declared.Refusal.{Refusal}
 use Rattle.tracker.specs.declared.Refusal.the-variants.{Disagrees, SequenceDrops, SecondDrops, SecondOutside, Settings, OfferedOutside, OfferedDrops}
 use Rattle.tracker.specs.declared.Checked.{Checked}

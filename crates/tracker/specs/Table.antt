@@ -6,7 +6,7 @@ use lib.ListN.{length, getD, take}
 use lib.Dec.{ltb, eqb}
 use lib.IntN.{ℤ, pos}
 use lib.Signed.{ltZ}
-use Rattle.bits.specs.Told.{Told, gave, refused}
+use Rattle.told.specs.Told.{Told, gave, refused}
 use Rattle.tracker.specs.First.{first}
 use Rattle.tracker.specs.Domain.{outside}
 use Rattle.tracker.specs.Settings.{badSettings, roomOf}

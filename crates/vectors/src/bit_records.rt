@@ -8,8 +8,8 @@ use crate::body::u64_at;
 use crate::tally;
 use bits::BitsRead;
 use bits::BitsWritten;
-use bits::Extended;
 use bits::Place;
+use signed::Extended;
 
 // What a read told: 0 and the value, or the refusal's number.
 struct Seen {
@@ -146,13 +146,13 @@ fn widened(low: u64) -> u64 {
 
 fn extended_so(extended: Extended, low: u64) -> bool {
     match extended {
-        Extended::Value(v) => bits::as_unsigned(v) == widened(low),
+        Extended::Value(v) => signed::as_unsigned(v) == widened(low),
         Extended::Width => false,
     }
 }
 
 pub fn extension(b: &[u8], tally: &mut [u64; tally::PLACES]) {
-    let got = bits::sign_extend(u32_at(b, 0) as u32, u8_at(b, 4) as u8);
+    let got = signed::sign_extend(u32_at(b, 0) as u32, u8_at(b, 4) as u8);
     let low = u32_at(b, 5) as u64;
     tally::note(tally, tally::EXTENSIONS, extended_so(got, low));
 }

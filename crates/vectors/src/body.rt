@@ -34,7 +34,7 @@ pub fn u64_at(b: &[u8], at: usize) -> u64 {
 }
 
 pub fn i64_at(b: &[u8], at: usize) -> i64 {
-    bits::as_signed(u64_at(b, at))
+    signed::as_signed(u64_at(b, at))
 }
 
 // The place `n` bytes on.

@@ -46,7 +46,7 @@ pub fn seq_of(s: &[u64], i: usize) -> u64 {
 // The bits of a second.
 pub fn sec_of(s: &[i64], i: usize) -> u64 {
     if i < s.len() {
-        return bits::as_unsigned(s[i]);
+        return signed::as_unsigned(s[i]);
     }
     0
 }
@@ -189,7 +189,7 @@ pub fn make(rule: Rule, seqs: &mut [u64], secs: &mut [i64]) {
     let mut i = 0;
     while i < n {
         put_seq(seqs, i, r.seq);
-        put_sec(secs, i, bits::as_signed(r.sec));
+        put_sec(secs, i, signed::as_signed(r.sec));
         r = next(r);
         i += 1;
     }

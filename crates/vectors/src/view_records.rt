@@ -82,7 +82,7 @@ pub fn second_so(b: &[u8], table: SequenceTracker, seqs: &[u64], secs: &[i64]) -
     match lookup::find_ts(table, seqs, secs, Seq(u64_at(b, 0)), way_of(u8_at(b, 8))) {
         FoundTs::At(s) => {
             let x = s.0;
-            among(b, 10, u8_at(b, 9), bits::as_unsigned(x))
+            among(b, 10, u8_at(b, 9), signed::as_unsigned(x))
         }
         FoundTs::Nothing => u8_at(b, 9) == 0,
         FoundTs::Refused(_) => false,

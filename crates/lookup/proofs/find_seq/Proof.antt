@@ -2,7 +2,7 @@ use borrow.Author.Needs.{needs}
 use borrow.Author.Tests.{lt-ltb, le-ltb}
 use native.Mathlib.Omega.{arith}
 use mathlib.Core.Path.{_≡_, sym, _∙_, ap}
-use Rattle.bits.specs.Told.{gave}
+use Rattle.told.specs.Told.{gave}
 use Rattle.tracker.specs.Refusal.{toldCheck}
 use Rattle.tracker.specs.Table.{checkOf}
 use Rattle.tracker.proofs.Good.{Fine, fine, count-seqs, count-secs}

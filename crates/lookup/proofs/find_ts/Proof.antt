@@ -4,7 +4,7 @@ use native.Mathlib.Omega.{arith}
 use mathlib.Core.Path.{_≡_, sym, _∙_, ap}
 use lib.IntN.{pos}
 use lib.ListN.{getD}
-use Rattle.bits.specs.Told.{gave}
+use Rattle.told.specs.Told.{gave}
 use Rattle.tracker.specs.Refusal.{toldCheck}
 use Rattle.tracker.specs.Table.{checkOf}
 use Rattle.tracker.proofs.Good.{Fine, fine, count-seqs, count-secs}

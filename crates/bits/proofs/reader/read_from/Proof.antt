@@ -38,7 +38,7 @@ use denote.Triple.Walked.{says, Stays, stay-none, stay-none-slice, walkOf, goes-
 use denote.Exit.{yes}
 use denote.Triple.Clauses.{ensured, lasts}
 use Rattle.bits.specs.Read.{Piece, toldRead, readRule}
-use Rattle.bits.specs.Told.{Told}
+use Rattle.told.specs.Told.{Told}
 use Rattle.bits.specs.declared.Place.{Place}
 use Rattle.bits.specs.declared.reader.BitReader.{BitReader}
 use Rattle.bits.specs.declared.BitsRead.{BitsRead}

@@ -11,14 +11,14 @@ use lib.IntN.{ℤ}
 use mir.Syntax.{w64}
 use mir.Val.{SFits}
 use mir.Facts.{toZ-ofZ}
-use Rattle.bits.specs.Signed.{pattern}
+use Rattle.signed.specs.Signed.{pattern}
 use Rattle.gorilla.specs.BitList.{bitsOf}
 use Rattle.gorilla.specs.Parser.{read}
 use Rattle.gorilla.specs.Reading.{readArray, readPart, thenAlign}
 use Rattle.gorilla.specs.declared.Array.the-variants.{Sequences, Seconds}
-use Rattle.arrays.specs.Steps.{toldArray, PassedArray, arrayAt, passedAt, Agrees}
+use Rattle.array_reader.specs.Steps.{toldArray, PassedArray, arrayAt, passedAt, Agrees}
 use Rattle.decoder.specs.Parts.{readArrays}
-use Rattle.arrays.proofs.Arrays.{array-length, array-room, part-found, part-differs, part-refused}
+use Rattle.array_reader.proofs.Arrays.{array-length, array-room, part-found, part-differs, part-refused}
 use Rattle.decoder.proofs.Header.{arrays-found, first-refused, second-refused}
 use Rattle.decoder.proofs.image.scan_arrays.Statement.{statement}
 use Rattle.decoder.proofs.image.scan_arrays.Tie as tie

@@ -9,17 +9,17 @@ use lib.IntN.{ℤ}
 use mir.Syntax.{w64}
 use mir.Val.{SFits}
 use mir.Facts.{toZ-ofZ}
-use Rattle.bits.specs.Over.{over}
-use Rattle.bits.specs.Signed.{pattern}
-use Rattle.bits.specs.Told.{gave}
+use Rattle.told.specs.Over.{over}
+use Rattle.signed.specs.Signed.{pattern}
+use Rattle.told.specs.Told.{gave}
 use Rattle.gorilla.specs.Parser.{Read}
 use Rattle.gorilla.specs.Reading.{Pairs}
 use Rattle.decoder.specs.Decode.{listed, countOf, seqsOver, secsOver}
-use Rattle.arrays.specs.Steps.{arrayAt, passedAt}
+use Rattle.array_reader.specs.Steps.{arrayAt, passedAt}
 use Rattle.decoder.specs.Parts.{toldImage, PassedImage}
 use Rattle.decoder.specs.declared.image.ImageScan.{ImageScan}
 use Rattle.decoder.specs.declared.image.Parts.{Parts}
-use Rattle.arrays.proofs.Arrays.{array-length}
+use Rattle.array_reader.proofs.Arrays.{array-length}
 use Rattle.decoder.proofs.reader.decode.Statement.{statement}
 use Rattle.decoder.proofs.reader.decode.Tie as tie
 

@@ -3,7 +3,7 @@ use Prim.Native.Nat.{ℕ}
 use mathlib.Core.Path.{_≡_, sym, ap, _∙_, subst}
 use mathlib.Core.Bool.{true}
 use mathlib.Core.List.{List}
-use Rattle.bits.specs.Told.{gave}
+use Rattle.told.specs.Told.{gave}
 use Rattle.decoder.specs.Decode.{lenOf, lenRule}
 use Rattle.decoder.specs.Parts.{toldImage, PassedImage}
 use Rattle.decoder.specs.declared.image.ImageScan.{ImageScan}

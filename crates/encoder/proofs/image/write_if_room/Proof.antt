@@ -5,7 +5,7 @@ use mathlib.Core.Path.{_≡_, ap, _∙_}
 use mathlib.Core.List.{List}
 use lib.ListN.{length}
 use lib.IntN.{ℤ}
-use Rattle.bits.specs.Told.{Told, gave, refused}
+use Rattle.told.specs.Told.{Told, gave, refused}
 use Rattle.gorilla.specs.Format.{imageBytes}
 use Rattle.encoder.specs.Encode.{encodedIn, roomRule}
 use Rattle.encoder.proofs.Rules.{no-room, enough}

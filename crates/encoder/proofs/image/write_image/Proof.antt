@@ -6,7 +6,7 @@ use mathlib.Core.List.{List, map}
 use lib.ListN.{length}
 use lib.Seq.{length-sets}
 use lib.IntN.{ℤ}
-use Rattle.bits.specs.Signed.{signed}
+use Rattle.signed.specs.Signed.{signed}
 use Rattle.gorilla.specs.Format.{arrayBits}
 use Rattle.gorilla.proofs.Packing.{length-packed}
 use Rattle.encoder.proofs.Whole.{image-length, image-put}

@@ -4,8 +4,8 @@ use Prim.Native.Nat.{ℕ, _+_, _/_}
 use mathlib.Core.Path.{sym, ap₂, _∙_}
 use mathlib.Core.List.{map}
 use lib.ListN.{length-map}
-use Rattle.bits.specs.Signed.{signed}
-use Rattle.writer.proofs.Codes.{array-most}
+use Rattle.signed.specs.Signed.{signed}
+use Rattle.array_writer.proofs.Codes.{array-most}
 use Rattle.encoder.proofs.Whole.{image-length}
 use Rattle.encoder.proofs.len.image_bytes.Statement.{statement}
 use Rattle.encoder.proofs.len.image_bytes.Tie as tie

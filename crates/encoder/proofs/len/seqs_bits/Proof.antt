@@ -8,15 +8,15 @@ use lib.IntN.{ℤ, pos}
 use mir.Syntax.{w64}
 use mir.Val.{SFits, toZ, ofZ}
 use mir.Facts.{toZ-ofZ}
-use Rattle.bits.specs.Signed.{signed}
+use Rattle.signed.specs.Signed.{signed}
 use Rattle.gorilla.specs.Steps.{advanced}
 use Rattle.gorilla.specs.BitList.{natBits}
 use Rattle.gorilla.specs.Format.{codeBits}
 use Rattle.gorilla.proofs.Bridge.{length-natBits}
-use Rattle.writer.specs.Parts.{Leads, Even}
-use Rattle.writer.proofs.Once.{zero-code}
-use Rattle.writer.proofs.Codes.{leads-one, Counted, none-length, code-most, count-first, count-next, count-last}
-use Rattle.writer.proofs.Runs.{leads-run}
+use Rattle.array_writer.specs.Parts.{Leads, Even}
+use Rattle.array_writer.proofs.Once.{zero-code}
+use Rattle.array_writer.proofs.Codes.{leads-one, Counted, none-length, code-most, count-first, count-next, count-last}
+use Rattle.array_writer.proofs.Runs.{leads-run}
 use Rattle.encoder.proofs.len.seqs_bits.Statement.{statement}
 use Rattle.encoder.proofs.len.seqs_bits.Tie as tie
 

@@ -3,7 +3,7 @@ use mir.Syntax.{w64}
 use mir.Val.{SFits}
 use mir.Facts.{toZ-ofZ}
 use borrow.Author.Needs.{sfits-of}
-use Rattle.bits.specs.Signed.{subS}
+use Rattle.signed.specs.Signed.{subS}
 use borrow.Author.Needs.{needs}
 use Rattle.gorilla.proofs.inner.advance.Statement.{statement}
 use Rattle.gorilla.proofs.inner.advance.Tie as tie

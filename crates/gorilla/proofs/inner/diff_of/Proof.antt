@@ -4,7 +4,7 @@ use mathlib.Core.Path.{_≡_, sym, ap, _∙_}
 use mir.Syntax.{w64}
 use mir.Val.{SFits}
 use mir.Facts.{toZ-ofZ}
-use Rattle.bits.specs.Extend.{toldExtend}
+use Rattle.signed.specs.Extend.{toldExtend}
 use Rattle.gorilla.proofs.Readers.{value-decoded, none-decoded}
 use Rattle.gorilla.proofs.inner.diff_of.Statement.{statement}
 use Rattle.gorilla.proofs.inner.diff_of.Tie as tie

@@ -5,7 +5,7 @@ use mir.Syntax.{w64}
 use mir.Val.{SFits}
 use mir.Facts.{toZ-ofZ}
 use borrow.Author.Needs.{sfits-of}
-use Rattle.bits.specs.Signed.{addS}
+use Rattle.signed.specs.Signed.{addS}
 use Rattle.gorilla.proofs.inner.follow.Statement.{statement}
 use Rattle.gorilla.proofs.inner.follow.Tie as tie
 

@@ -4,7 +4,7 @@ use Prim.Native.Nat.{_≤_, _+_, _-_}
 use native.Mathlib.Omega.{arith}
 use borrow.Author.Tests.{lt-ltb, le-ltb}
 use lib.ListN.{length-set}
-use Rattle.bits.specs.Over.{over}
+use Rattle.told.specs.Over.{over}
 use Rattle.offers.specs.Keep.{appended, thinned}
 use Rattle.offers.proofs.Halve.{Halving, halving-start, halving-more, added, ended-even, ended-odd}
 use Rattle.offers.proofs.keep.seq_keep.Statement.{statement}

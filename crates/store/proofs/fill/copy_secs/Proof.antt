@@ -4,7 +4,7 @@ use native.Mathlib.Omega.{arith}
 use lib.ListN.{length, length-set, take, getD}
 use lib.IntN.{pos}
 use Rattle.tracker.proofs.Order.{round}
-use Rattle.bits.specs.Over.{over}
+use Rattle.told.specs.Over.{over}
 use Rattle.store.proofs.Copy.{copy-more, copy-long}
 use Rattle.store.proofs.fill.copy_secs.Statement.{statement}
 use Rattle.store.proofs.fill.copy_secs.Tie as tie

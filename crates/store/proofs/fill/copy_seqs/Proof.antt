@@ -2,7 +2,7 @@ use mathlib.Core.Path.{_≡_, refl, sym, _∙_, ap}
 use Prim.Native.Nat.{_≤_, _<_, _-_, _+_}
 use native.Mathlib.Omega.{arith}
 use lib.ListN.{length, length-set, take}
-use Rattle.bits.specs.Over.{over}
+use Rattle.told.specs.Over.{over}
 use Rattle.store.proofs.Copy.{copy-more, copy-long}
 use Rattle.store.proofs.fill.copy_seqs.Statement.{statement}
 use Rattle.store.proofs.fill.copy_seqs.Tie as tie

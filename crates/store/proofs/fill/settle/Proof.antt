@@ -1,6 +1,6 @@
 use borrow.Author.Needs.{needs}
 use mathlib.Core.Path.{_≡_, refl, sym, ap, _∙_}
-use Rattle.bits.specs.Told.{gave}
+use Rattle.told.specs.Told.{gave}
 use Rattle.tracker.specs.Refusal.{toldCheck}
 use Rattle.tracker.specs.Settings.{freshTable}
 use Rattle.tracker.specs.Table.{pairsOf}

@@ -7,7 +7,7 @@ use borrow.Author.Tests.{eqb-true}
 use lib.ListN.{length, getD}
 use lib.IntN.{ℤ, pos, natAbs}
 use mir.Facts.{toZ-ofZ}
-use Rattle.bits.specs.Signed.{subS}
+use Rattle.signed.specs.Signed.{subS}
 use Rattle.strict.proofs.Small.{Calm, calm-first, calm-next, calm-last}
 use Rattle.strict.proofs.calm.calm_secs.Statement.{statement}
 use Rattle.strict.proofs.calm.calm_secs.Tie as tie

@@ -7,7 +7,7 @@ use borrow.Author.Tests.{eqb-true}
 use lib.ListN.{length, getD, length-map, List·getD-map}
 use lib.IntN.{ℤ, pos, natAbs}
 use mir.Facts.{toZ-ofZ}
-use Rattle.bits.specs.Signed.{signed, subS}
+use Rattle.signed.specs.Signed.{signed, subS}
 use Rattle.strict.proofs.Small.{Calm, calm-first, calm-next, calm-last}
 use Rattle.strict.proofs.calm.calm_seqs.Statement.{statement}
 use Rattle.strict.proofs.calm.calm_seqs.Tie as tie

@@ -6,7 +6,7 @@ use lib.IntN.{ℤ, natAbs}
 use mir.Syntax.{w64}
 use mir.Val.{SFits}
 use mir.Facts.{toZ-ofZ}
-use Rattle.bits.specs.Signed.{pattern, subS}
+use Rattle.signed.specs.Signed.{pattern, subS}
 use Rattle.strict.proofs.Small.{moved-small}
 use Rattle.strict.proofs.calm.excess.Statement.{statement}
 use Rattle.strict.proofs.calm.excess.Tie as tie

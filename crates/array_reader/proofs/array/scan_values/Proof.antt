@@ -1,0 +1,124 @@
+use native.Mathlib.Omega.{arith}
+use borrow.Author.Needs.{needs}
+use Prim.Native.Nat.{ℕ, _-_, _*_, _≤_, _<_}
+use mathlib.Core.Path.{_≡_, sym, ap, _∙_, subst}
+use mathlib.Core.List.{List, [], _∷_}
+use lib.ListN.{length, drop}
+use mir.Syntax.{w64}
+use mir.Val.{SFits, toZ, ofZ}
+use mir.Facts.{toZ-ofZ}
+use Rattle.bits.specs.Read.{toldRead}
+use Rattle.bits.specs.declared.Place.{Place}
+use Rattle.bits.proofs.Answers.{too-wide}
+use Rattle.gorilla.specs.Array.{arrayNo}
+use Rattle.gorilla.specs.BitList.{bitsOf}
+use Rattle.gorilla.specs.Parser.{read, takeOff, shape}
+use Rattle.gorilla.specs.Places.{bitsFrom}
+use Rattle.gorilla.specs.Reading.{readCodes}
+use Rattle.gorilla.proofs.Readers.{took, ended}
+use Rattle.array_reader.specs.Steps.{toldScan, arrayAt}
+use Rattle.array_reader.proofs.Arrays.{values-found, values-passed, values-cut, values-short, end-within}
+use Rattle.array_reader.proofs.array.scan_values.Statement.{statement}
+use Rattle.array_reader.proofs.array.scan_values.Tie as tie
+
+abbrev st-of : tie.After-read-bits → tie.Start
+st-of ar = ar .before .before
+
+abbrev s-of : tie.After-read-bits → List ℕ
+s-of ar = (st-of ar) .args .s .now
+
+abbrev a-of : tie.After-read-bits → ℕ
+a-of ar = arrayNo ((st-of ar) .args .array)
+
+abbrev n-of : tie.After-read-bits → ℕ
+n-of ar = (st-of ar) .args .count
+
+abbrev here-of : tie.After-read-bits → List ℕ
+here-of ar = bitsFrom (s-of ar) ((st-of ar) .args .at)
+
+abbrev q-of : tie.After-v → Place
+q-of av = av .v .given .0 .1 .0
+
+first-is : (av : tie.After-v) → takeOff (5 ∷ a-of (av .before .before) ∷ []) 64 0 (here-of (av .before .before)) ≡ read (av .v .given .0 .0) (bitsFrom (s-of (av .before .before)) (q-of av))
+first-is av =
+    let ar = av .before .before in
+    took (s-of ar) ((st-of ar) .args .at) 64 (5 ∷ a-of ar ∷ []) (ap toldRead (sym (av .v .given .1)) ∙ ar .read-bits .ensures)
+
+read-bits-requires : tie.Need-read-bits-requires
+read-bits-requires c κs = search needs
+
+enum-known-v : tie.Need-enum-known-v
+enum-known-v c = search needs
+
+scan-requires : tie.Need-scan-requires
+scan-requires c κs = search needs
+
+enum-known-e : tie.Need-enum-known-e
+enum-known-e c = search needs
+
+as-signed-requires : tie.Need-as-signed-requires
+as-signed-requires c κs = search needs
+
+end-of-requires : tie.Need-end-of-requires
+end-of-requires c κs = search needs
+
+enum-known-r : tie.Need-enum-known-r
+enum-known-r c = search needs
+
+enum-told : tie.Need-enum-told
+enum-told c = search needs
+
+enum-told-2 : tie.Need-enum-told-2
+enum-told-2 c = search needs
+
+returns : tie.Need-returns
+returns c =
+    let ah = c .before in
+    let ae = ah .before .before in
+    let sc = ae .before .before in
+    let av = sc .before .before in
+    let ar = av .before .before in
+    let e = ae .e .given .0 .0 in
+    let f : SFits w64 (ah .as-signed .result) = search needs in
+    let k : read tt (bitsFrom (s-of ar) e) ≡ shape (readCodes (a-of ar) (n-of ar - 1) 1 (bitsFrom (s-of ar) (q-of av))) = ap (toldScan (s-of ar)) (sym (ae .e .given .1)) ∙ sc .scan .ensures in (
+      ap (λ (u : ℕ). read (arrayAt (s-of ar) (a-of ar) (n-of ar) (toZ w64 (ofZ w64 (ah .as-signed .result))) (q-of av)) (drop (u * 8) (bitsOf (s-of ar)))) (c .end-of .ensures)
+          ∙ values-found (s-of ar) (a-of ar) (here-of ar) (n-of ar) (q-of av) e ((st-of ar) .pre) (toZ-ofZ f ∙ ah .as-signed .ensures) (first-is av) k,
+      (values-passed (s-of ar) (a-of ar) (here-of ar) (n-of ar) (q-of av) e ((st-of ar) .pre) k, subst (λ (u : ℕ). u ≤ length (s-of ar)) (sym (c .end-of .ensures)) (end-within (length (s-of ar)) e)),
+    )
+
+returns-2 : tie.Need-returns-2
+returns-2 c =
+    let r = c .before in
+    let sc = r .before .before in
+    let av = sc .before .before in
+    let ar = av .before .before in
+    (values-cut (s-of ar) (a-of ar) (here-of ar) (n-of ar) ((st-of ar) .pre) (first-is av) (ap (toldScan (s-of ar)) (sym (r .r .given .1)) ∙ sc .scan .ensures), tt)
+
+returns-3 : tie.Need-returns-3
+returns-3 c =
+    let ar = c .before .before in
+    let w : 64 < 64 = too-wide (s-of ar) ((st-of ar) .args .at) 64 (ap toldRead (sym (c .enum-told .given .1)) ∙ ar .read-bits .ensures) in
+    absurd (omega arith)
+
+returns-4 : tie.Need-returns-4
+returns-4 c =
+    let ar = c .before .before in
+    (values-short (s-of ar) (a-of ar) (here-of ar) (n-of ar) ((st-of ar) .pre) (ended (s-of ar) ((st-of ar) .args .at) 64 (5 ∷ a-of ar ∷ []) (ap toldRead (sym (c .enum-told2 .given .1)) ∙ ar .read-bits .ensures)), tt)
+
+pub scan-values-spec : {M : Type 1} → statement M
+scan-values-spec =
+    tie.close
+    (tie.spec
+    read-bits-requires
+    enum-known-v
+    scan-requires
+    enum-known-e
+    as-signed-requires
+    end-of-requires
+    enum-known-r
+    enum-told
+    enum-told-2
+    returns
+    returns-2
+    returns-3
+    returns-4)

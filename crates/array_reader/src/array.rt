@@ -1,0 +1,68 @@
+// One array of an image, looked over with no value kept.
+ghost use mathlib.Core.Path.{_≡_};
+ghost use mathlib.Core.Bool.{Bool};
+ghost use Prim.Native.Nat.{ℕ, _*_, _≤_, _<_};
+ghost use lib.ListN.{length, drop};
+ghost use Rattle.bits.specs.Place.{posOf};
+ghost use Rattle.gorilla.specs.Array.{arrayNo};
+ghost use Rattle.gorilla.specs.BitList.{bitsOf, byteLen};
+ghost use Rattle.gorilla.specs.Places.{bitsFrom};
+ghost use Rattle.gorilla.specs.Reading.{readValues, readArray, thenAlign};
+ghost use Rattle.array_reader.specs.Steps.{toldArray, PassedArray, Agrees};
+use crate::Refusal;
+use crate::scan::Scanned;
+use crate::scan::scan;
+use bits::BitsRead;
+use bits::Place;
+use gorilla::Array;
+
+pub enum ArrayScan {
+    // the count, the first value, the place of the codes, and the byte after the array
+    Found(usize, i64, Place, usize),
+    Refused(Refusal),
+}
+
+// The byte after a place, or the place's own byte where it is a whole one.
+pub fn end_of(s: &[u8], at: Place) -> usize
+    ensures { λ r. ⌜ r ≡ byteLen (posOf (length (now (s .entry))) at) ⌝ }
+{
+    let p = bits::inner::settle(s.len(), at);
+    if p.bit == 0 { p.byte } else { p.byte + 1 }
+}
+
+// The values of an array of a count that is not 0.
+fn scan_values(s: &[u8], at: Place, count: usize, array: Array) -> ArrayScan
+    requires { ⌜ 1 ≤ count ⌝ }
+    ensures { λ r. ⌜ toldArray (now (s .entry)) array r ≡ thenAlign (readValues (arrayNo array) count (bitsFrom (now (s .entry)) at)) ⌝ }
+    ensures { λ r. ⌜ PassedArray (now (s .entry)) array r ⌝ }
+{
+    match bits::read_bits(s, at, 64) {
+        BitsRead::Value(v, q) => match scan(s, q, count, array) {
+            Scanned::Done(e) => ArrayScan::Found(count, signed::as_signed(v), q, end_of(s, e)),
+            Scanned::Refused(r) => ArrayScan::Refused(r),
+        },
+        BitsRead::Width => ArrayScan::Refused(Refusal::FirstCut(array)),
+        BitsRead::Short => ArrayScan::Refused(Refusal::FirstCut(array)),
+    }
+}
+
+// An array from a byte on, of at most max values: a count has 32 bits, so `room` says no more than that.
+pub fn scan_array(s: &[u8], from: usize, max: usize, array: Array) -> ArrayScan
+    ensures { λ r. ⌜ ((room : ℕ → Bool) → Agrees max room → toldArray (now (s .entry)) array r ≡ thenAlign (readArray (arrayNo array) room (drop (from * 8) (bitsOf (now (s .entry)))))) ⌝ }
+    ensures { λ r. ⌜ PassedArray (now (s .entry)) array r ⌝ }
+{
+    match bits::read_bits(s, Place { byte: from, bit: 0 }, 32) {
+        BitsRead::Value(v, p) => {
+            let count = v as usize;
+            if max < count {
+                return ArrayScan::Refused(Refusal::TooMany(array));
+            }
+            if count == 0 {
+                return ArrayScan::Found(0, 0, p, end_of(s, p));
+            }
+            scan_values(s, p, count, array)
+        }
+        BitsRead::Width => ArrayScan::Refused(Refusal::CountCut(array)),
+        BitsRead::Short => ArrayScan::Refused(Refusal::CountCut(array)),
+    }
+}

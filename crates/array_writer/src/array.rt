@@ -1,0 +1,167 @@
+// One array, written from a whole byte on.
+ghost use mathlib.Core.Path.{_≡_};
+ghost use mathlib.Core.List.{_++_, map};
+ghost use Prim.Native.Nat.{_+_, _*_, _^_, _≤_, _<_};
+ghost use lib.ListN.{length};
+ghost use lib.Seq.{sets};
+ghost use Rattle.bits.specs.Place.{placeOf};
+ghost use Rattle.signed.specs.Signed.{signed};
+ghost use Rattle.gorilla.specs.BitList.{natBits, byteLen};
+ghost use Rattle.gorilla.specs.Places.{putList};
+ghost use Rattle.gorilla.specs.Format.{arrayBits, arrayBytes};
+ghost use Rattle.array_writer.specs.Parts.{codesOf};
+use crate::Held;
+use crate::code::code_of;
+use crate::code::joined;
+use crate::code::put;
+use crate::code::takes_zero;
+use crate::run::RUN;
+use crate::run::even_secs;
+use crate::run::even_seqs;
+use bits::Place;
+use gorilla::Track;
+use gorilla::inner::advance;
+
+// The codes of the sequences after the first, put a word at a time. A zero bit is by far the most frequent code, so that it
+// is joined without a look at the rows, and after it a run of them at once.
+fn write_seq_codes(buf: &mut [u8], at: Place, seqs: &[u64]) -> Place
+    requires { ⌜ (1 ≤ length (now seqs)) × (at .bit < 8) × (at .byte * 8 + at .bit + length (codesOf (map signed (now seqs))) ≤ length (now buf) * 8) ⌝ }
+    ensures place { λ r. ⌜ r ≡ placeOf (at .byte * 8 + at .bit + length (codesOf (map signed (now (seqs .entry))))) ⌝ }
+    ensures buf { λ r. ⌜ now (buf .exit) ≡ putList (now (buf .entry)) (at .byte * 8 + at .bit) (codesOf (map signed (now (seqs .entry)))) ⌝ }
+{
+    let mut t = Track {
+        prev: signed::as_signed(seqs[0]),
+        delta: 0,
+    };
+    let mut p = at;
+    let mut held = Held { value: 0, width: 0 };
+    let mut i: usize = 1;
+    while i < seqs.len() {
+        let c = advance(t, signed::as_signed(seqs[i]));
+        let next = c.next;
+        t = next;
+        i += 1;
+        if takes_zero(held.width, c.dod) {
+            held = joined(held, Held { value: 0, width: 1 });
+            let run = Held {
+                value: 0,
+                width: RUN as u8,
+            };
+            if held.width + run.width <= 64 {
+                if even_seqs(seqs, i, t) {
+                    i += RUN;
+                    held = joined(held, run);
+                    t.prev = signed::as_signed(seqs[i - 1]);
+                }
+            }
+            continue;
+        }
+        let code = code_of(c.dod);
+        if held.width + code.width <= 64 {
+            held = joined(held, code);
+            continue;
+        }
+        p = put(buf, p, held.value, held.width);
+        held = code;
+    }
+    put(buf, p, held.value, held.width)
+}
+
+// The codes of the seconds after the first, likewise.
+fn write_sec_codes(buf: &mut [u8], at: Place, secs: &[i64]) -> Place
+    requires { ⌜ (1 ≤ length (now secs)) × (at .bit < 8) × (at .byte * 8 + at .bit + length (codesOf (now secs)) ≤ length (now buf) * 8) ⌝ }
+    ensures place { λ r. ⌜ r ≡ placeOf (at .byte * 8 + at .bit + length (codesOf (now (secs .entry)))) ⌝ }
+    ensures buf { λ r. ⌜ now (buf .exit) ≡ putList (now (buf .entry)) (at .byte * 8 + at .bit) (codesOf (now (secs .entry))) ⌝ }
+{
+    let first = secs[0];
+    let mut t = Track {
+        prev: first,
+        delta: 0,
+    };
+    let mut p = at;
+    let mut held = Held { value: 0, width: 0 };
+    let mut i: usize = 1;
+    while i < secs.len() {
+        let c = advance(t, secs[i]);
+        let next = c.next;
+        t = next;
+        i += 1;
+        if takes_zero(held.width, c.dod) {
+            held = joined(held, Held { value: 0, width: 1 });
+            let run = Held {
+                value: 0,
+                width: RUN as u8,
+            };
+            if held.width + run.width <= 64 {
+                if even_secs(secs, i, t) {
+                    i += RUN;
+                    held = joined(held, run);
+                    t.prev = secs[i - 1];
+                }
+            }
+            continue;
+        }
+        let code = code_of(c.dod);
+        if held.width + code.width <= 64 {
+            held = joined(held, code);
+            continue;
+        }
+        p = put(buf, p, held.value, held.width);
+        held = code;
+    }
+    put(buf, p, held.value, held.width)
+}
+
+// The count and the first value of an array.
+fn write_head(buf: &mut [u8], from: usize, count: usize, first: u64) -> Place
+    requires { ⌜ from * 8 + 96 ≤ length (now buf) * 8 ⌝ }
+    ensures place { λ r. ⌜ r ≡ placeOf (from * 8 + 96) ⌝ }
+    ensures buf { λ r. ⌜ now (buf .exit) ≡ putList (now (buf .entry)) (from * 8) (natBits 32 count ++ natBits 64 first) ⌝ }
+{
+    let p = put(buf, Place { byte: from, bit: 0 }, count as u64, 32);
+    put(buf, p, first, 64)
+}
+
+// An array of no values: its count.
+fn write_none(buf: &mut [u8], from: usize) -> usize
+    requires { ⌜ from * 8 + 32 ≤ length (now buf) * 8 ⌝ }
+    ensures end { λ r. ⌜ r ≡ from + 4 ⌝ }
+    ensures buf { λ r. ⌜ now (buf .exit) ≡ putList (now (buf .entry)) (from * 8) (natBits 32 0) ⌝ }
+{
+    put(buf, Place { byte: from, bit: 0 }, 0, 32);
+    from + 4
+}
+
+// The whole bytes before a place, the place's own with them where it has begun.
+fn rounded(at: Place) -> usize
+    requires { ⌜ (at .byte < 2 ^ 63) × (at .bit < 8) ⌝ }
+    ensures { λ r. ⌜ r ≡ byteLen (at .byte * 8 + at .bit) ⌝ }
+{
+    at.byte + ((at.bit + 7) / 8) as usize
+}
+
+// The sequences' array from the byte `from` on, and the byte after it.
+pub fn write_seqs(buf: &mut [u8], from: usize, seqs: &[u64]) -> usize
+    requires { ⌜ from * 8 + length (arrayBits (map signed (now seqs))) ≤ length (now buf) * 8 ⌝ }
+    ensures end { λ r. ⌜ r ≡ from + length (arrayBytes (map signed (now (seqs .entry)))) ⌝ }
+    ensures buf { λ r. ⌜ now (buf .exit) ≡ sets (now (buf .entry)) from (arrayBytes (map signed (now (seqs .entry)))) ⌝ }
+{
+    if seqs.len() == 0 {
+        return write_none(buf, from);
+    }
+    let p = write_head(buf, from, seqs.len(), seqs[0]);
+    rounded(write_seq_codes(buf, p, seqs))
+}
+
+// The seconds' array from the byte `from` on, and the byte after it.
+pub fn write_secs(buf: &mut [u8], from: usize, secs: &[i64]) -> usize
+    requires { ⌜ from * 8 + length (arrayBits (now secs)) ≤ length (now buf) * 8 ⌝ }
+    ensures end { λ r. ⌜ r ≡ from + length (arrayBytes (now (secs .entry))) ⌝ }
+    ensures buf { λ r. ⌜ now (buf .exit) ≡ sets (now (buf .entry)) from (arrayBytes (now (secs .entry))) ⌝ }
+{
+    if secs.len() == 0 {
+        return write_none(buf, from);
+    }
+    let p = write_head(buf, from, secs.len(), signed::as_unsigned(secs[0]));
+    rounded(write_sec_codes(buf, p, secs))
+}

@@ -1,0 +1,4 @@
+pub mod Signs
+pub mod Wrapping
+pub mod Widths
+pub mod Unique

@@ -1,0 +1,33 @@
+use mir.Facts.{toZ-ofZ}
+use borrow.Author.Needs.{needs}
+use Rattle.skutlaneb.proofs.table_calls.skut_offer.Statement.{statement}
+use Rattle.skutlaneb.proofs.table_calls.skut_offer.Tie as tie
+
+table-of-requires : tie.Need-table-of-requires
+table-of-requires c κs = search needs
+
+offer-requires : tie.Need-offer-requires
+offer-requires c κs = search needs
+
+of-offered-requires : tie.Need-of-offered-requires
+of-offered-requires c κs = search needs
+
+same-length : tie.Need-same-length
+same-length c = search needs
+
+same-length-2 : tie.Need-same-length-2
+same-length-2 c = search needs
+
+returns : tie.Need-returns
+returns c = (rw (c .of-offered .ensures, c .before .before .before .before .offer .ensures .0, c .before .before .before .before .before .before .before .table-of .ensures, toZ-ofZ (c .before .before .before .before .before .before .before .before .before .fits .sec)), (rw (c .before .before .before .before .offer .ensures .1 .0, c .before .before .before .before .offer .ensures .0, c .before .before .before .before .before .before .before .table-of .ensures, toZ-ofZ (c .before .before .before .before .before .before .before .before .before .fits .sec)), rw (c .before .before .before .before .offer .ensures .1 .1, c .before .before .before .before .offer .ensures .0, c .before .before .before .before .before .before .before .table-of .ensures, toZ-ofZ (c .before .before .before .before .before .before .before .before .before .fits .sec))))
+
+pub skut-offer-spec : {M : Type 1} → statement M
+skut-offer-spec =
+    tie.close
+    (tie.spec
+    table-of-requires
+    offer-requires
+    of-offered-requires
+    same-length
+    same-length-2
+    returns)

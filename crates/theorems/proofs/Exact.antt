@@ -1,0 +1,67 @@
+-- With room for the image a strict save is refused with 20 exactly where the image reads back as other pairs, and writes it exactly where it reads back.
+use mathlib.Core.Path.{_≡_, refl, sym, ap, _∙_}
+use mathlib.Core.Logic.{_↔_}
+use mathlib.Core.List.{List, [], _∷_}
+use Prim.Native.Nat.{ℕ, _≤_, min}
+use native.Mathlib.Omega.{arith}
+use borrow.Author.Tests.{le-leb, le-ltb}
+use lib.Dec.{leb}
+use lib.ListN.{length, drop}
+use lib.Seq.{take-at}
+use Rattle.told.specs.Told.{gave, refused}
+use Rattle.gorilla.specs.BitList.{bitsOf}
+use Rattle.gorilla.specs.Parser.{read}
+use Rattle.gorilla.specs.Reading.{Pairs}
+use Rattle.gorilla.specs.Wide.{Wide, none, found, wideOf}
+use Rattle.gorilla.proofs.RoundTrip.{receivedPairs, reads, exact}
+use Rattle.tracker.proofs.Bools.{not-given}
+use Rattle.encoder.specs.Encode.{wideRule, roomRule}
+use Rattle.decoder.specs.Decode.{listed}
+use Rattle.theorems.specs.Run.{Table, Reload, Lent, keptIn, imageFor, saveTo, encodeTo, readBack, RefusedWith, ReadsOthers}
+use Rattle.theorems.proofs.Sound.{Sound}
+use Rattle.theorems.proofs.Reload.{kept-fit, seqs-long, at-most, both-pass, save-is, wrote}
+
+module _ (w : Table) (S : Sound w) (l : Reload) (lent : Lent (l .seqs) (l .secs)) (room : length (imageFor w) ≤ length (l .out)) where
+  encode-is : encodeTo w (l .out) ≡ gave (length (imageFor w))
+  unfolding roomRule
+  encode-is = both-pass w S _ ∙ rw (le-ltb (length (l .out)) (length (imageFor w)) room)
+
+  strict-is : saveTo w (l .out) ≡ wideRule (wideOf (keptIn w .seqs) (keptIn w .secs)) (gave (length (imageFor w)))
+  unfolding roomRule
+  strict-is = save-is w S (l .out) ∙ rw (le-ltb (length (l .out)) (length (imageFor w)) room)
+
+  comes-back : readBack w l ≡ read (receivedPairs (keptIn w)) (bitsOf (l .following))
+  unfolding listed
+  comes-back =
+      rw (encode-is, take-at (imageFor w) (drop (length (imageFor w)) (l .out)) (length (imageFor w)) refl)
+      (reads (keptIn w) (λ k. leb k (min (length (l .seqs)) (length (l .secs)))) (l .following) (kept-fit w S)
+      (le-leb (length (keptIn w .seqs)) (min (length (l .seqs)) (length (l .secs))) (omega (arith, seqs-long w S, at-most w S, lent .0, lent .1))))
+
+  -- what reads back is the kept pairs exactly where no difference is wide
+  same-back : (p : Pairs) → readBack w l ≡ read p (bitsOf (l .following)) → (p ≡ keptIn w) ↔ (wideOf (keptIn w .seqs) (keptIn w .secs) ≡ none)
+  same-back p e =
+      let k : read p (bitsOf (l .following)) ≡ read (receivedPairs (keptIn w)) (bitsOf (l .following)) = sym e ∙ comes-back in
+      let j : p ≡ receivedPairs (keptIn w) = cc in
+      let x = exact (keptIn w) (kept-fit w S) in
+      (λ h. x .1 (sym j ∙ h), λ h. j ∙ x .0 h)
+
+  pub refuses : RefusedWith 20 (saveTo w (l .out)) ↔ ReadsOthers w l
+  refuses =
+      let x = wideOf (keptIn w .seqs) (keptIn w .secs) in (
+        λ r. (receivedPairs (keptIn w), comes-back, λ h. narrow x (r .0) (sym strict-is ∙ r .1) (exact (keptIn w) (kept-fit w S) .1 h)),
+        λ k. let r = wide x (λ z. k .2 (same-back (k .0) (k .1) .1 z)) in (r .0, strict-is ∙ r .1),
+      )
+    where
+      narrow : (x : Wide) (more : List ℕ) → wideRule x (gave (length (imageFor w))) ≡ refused (20 ∷ more) → x ≡ none → ⊥
+      narrow none more h z = not-given (20 ∷ more) (length (imageFor w)) (sym h)
+      narrow (found a i) more h z = let z : _≡_ {A = ℕ} 0 1 = cc in omega arith
+
+      wide : (x : Wide) → (x ≡ none → ⊥) → RefusedWith 20 (wideRule x (gave (length (imageFor w))))
+      wide none h = absurd (h refl)
+      wide (found a i) h = (a ∷ i ∷ [], refl)
+
+  pub writes : (saveTo w (l .out) ≡ gave (length (imageFor w))) ↔ (readBack w l ≡ read (keptIn w) (bitsOf (l .following)))
+  writes = (
+    λ e. comes-back ∙ ap (λ (p : Pairs). read p (bitsOf (l .following))) (exact (keptIn w) (kept-fit w S) .0 (wrote w S (l .out) (length (imageFor w)) e .0)),
+    λ e. let z = same-back (keptIn w) e .0 refl in strict-is ∙ rw z,
+  )

@@ -1,0 +1,37 @@
+-- Two short runs, computed: with a save that writes, the table comes back in the other arrays; with one that is refused, it stays in its own.
+use mathlib.Core.Path.{_≡_, refl}
+use mathlib.Core.List.{[], _∷_}
+use Prim.Native.Nat.{ℕ}
+use lib.IntN.{pos}
+use lib.ListN.{take, replicate}
+use Rattle.tracker.specs.First.{firstFrom}
+use Rattle.tracker.specs.declared.LastRecorded.the-variants.{At}
+use Rattle.gorilla.specs.BitList.{natBits, bitsOf, natFrom, bytesOf, packed}
+use Rattle.gorilla.specs.Format.{codeBits, codesBits, valuesBits, arrayBits, leBytes, imageBytes}
+use Rattle.gorilla.specs.Parser.{takeOff}
+use Rattle.gorilla.specs.Reading.{cutNumber, countOnes, readCode, readCodes, valuesAfter, readValues, readArray, leCount, readPart, readPairs}
+use Rattle.gorilla.specs.Rows.{rowOf, strict}
+use Rattle.gorilla.specs.Wide.{wideAfter, wideIn, wideOf}
+use Rattle.offers.specs.Keep.{evens}
+use Rattle.encoder.specs.Encode.{arraysRule, roomRule}
+use Rattle.theorems.specs.Run.{Table, new, Event, offered, reloaded, step, ranTo}
+
+offer : ℕ → ℕ → Event
+offer seq ts = offered (record { 0 = seq }) (record { 0 = pos ts })
+
+reload : Event
+reload = reloaded (record { out = replicate 60 9; following = 7 ∷ []; seqs = replicate 8192 5; secs = replicate 8192 (pos 5) })
+
+begin : Table
+begin = new (replicate 8192 3) (replicate 8192 (pos 3))
+
+-- what the first three places of each array hold, and the state
+runs : let w = ranTo begin (offer 100 0 ∷ reload ∷ offer 164 60 ∷ reload ∷ offer 9 119 ∷ offer 9 120 ∷ reload ∷ []) in
+    let v = ranTo begin (offer 0 0 ∷ offer 1 2147483648 ∷ reload ∷ []) in
+    (take 3 (w .seqs) ≡ 100 ∷ 164 ∷ 5 ∷ [])
+    × (take 3 (w .secs) ≡ pos 0 ∷ pos 60 ∷ pos 5 ∷ [])
+    × (w .state ≡ record { count = 2; capacity = 8192; «interval_secs» = 60; «last_recorded_ts» = At (record { 0 = pos 60 }) })
+    × (take 3 (v .seqs) ≡ 0 ∷ 1 ∷ 3 ∷ [])
+    × (take 3 (v .secs) ≡ pos 0 ∷ pos 2147483648 ∷ pos 3 ∷ [])
+unfolding offer reload begin step ranTo evens firstFrom arraysRule roomRule wideOf wideIn wideAfter strict natBits bitsOf natFrom bytesOf packed takeOff codeBits codesBits valuesBits arrayBits leBytes imageBytes rowOf cutNumber countOnes readCode readCodes valuesAfter readValues readArray leCount readPart readPairs
+runs = (refl, refl, refl, refl, refl)

@@ -1,0 +1,165 @@
+-- What a strict save wrote comes back: the same kept pairs, the same state, a good table.
+use mathlib.Core.Path.{_≡_, refl, sym, ap, _∙_}
+use mathlib.Core.Bool.{Bool, true, false, cond}
+use mathlib.Core.List.{List, [], _∷_, _++_}
+use Prim.Native.Nat.{ℕ, _≤_, _<_}
+use native.Mathlib.Nat.{le-refl}
+use native.Mathlib.Omega.{arith}
+use borrow.Author.Tests.{le-leb, le-ltb, eq-eqb}
+use lib.Dec.{leb, ltb}
+use lib.IntN.{ℤ, pos}
+use lib.ListN.{length, getD, drop}
+use lib.Seq.{take-at, take-take, getD-take, length-take-le}
+use Rattle.told.specs.Told.{Told, gave, refused}
+use Rattle.told.specs.Over.{over}
+use Rattle.gorilla.specs.BitList.{bitsOf}
+use Rattle.gorilla.specs.Parser.{read}
+use Rattle.gorilla.specs.RoundTrip.{Fit}
+use Rattle.gorilla.specs.Wide.{Wide, none, found, wideOf}
+use Rattle.gorilla.proofs.RoundTrip.{strict-reads-back}
+use Rattle.tracker.specs.Settings.{roomOf, freshTable, defaultCapacity, defaultIntervalSecs}
+use Rattle.tracker.specs.Table.{pairsOf}
+use Rattle.tracker.proofs.Bools.{not-given}
+use Rattle.tracker.proofs.Good.{fine, sorted-again, few, count-seqs, count-secs}
+use Rattle.tracker.proofs.Kept.{kept-at, pairs-kept, check-kept}
+use Rattle.offers.proofs.Rise.{over-length}
+use Rattle.encoder.specs.Encode.{arraysRule, wideRule, roomRule}
+use Rattle.store.specs.Restore.{lastOf, readTable, judged}
+use Rattle.theorems.specs.Run.{Table, Reload, Lent, keptIn, imageFor, saveTo, stored, restoreTo, restoredTo, reloadedTo}
+use Rattle.theorems.proofs.Kept.{inside-fits}
+use Rattle.theorems.proofs.Sound.{Sound, Same, agreed-in, same-self}
+
+module _ (w : Table) (S : Sound w) where
+  pub seqs-long : length (keptIn w .seqs) ≡ w .state .count
+  seqs-long = length-take-le (w .state .count) (w .seqs) (count-seqs (w .state) (w .seqs) (w .secs) (agreed-in w S))
+
+  secs-long : length (keptIn w .secs) ≡ w .state .count
+  secs-long = length-take-le (w .state .count) (w .secs) (count-secs (w .state) (w .seqs) (w .secs) (agreed-in w S))
+
+  pub at-most : w .state .count ≤ 8192
+  at-most = few (w .state) (w .seqs) (w .secs) (agreed-in w S)
+
+  -- the kept pairs are such as an image holds
+  pub kept-fit : Fit (keptIn w)
+  kept-fit = record {
+    same = seqs-long ∙ sym secs-long;
+    few = omega (arith, seqs-long, at-most);
+    seqs64 = λ i h. let l : i < w .state .count = omega (arith, seqs-long) in rw (getD-take (w .state .count) (w .seqs) i 0 l) (S .seqs64 i l);
+    secs64 = λ i h. let l : i < w .state .count = omega (arith, secs-long) in
+        rw (getD-take (w .state .count) (w .secs) i (pos 0) l) (inside-fits (getD (w .secs) i (pos 0)) (fine (w .state) (w .seqs) (w .secs) (S .good) .pairs .inside i l));
+  }
+
+  -- ---- restore of the kept pairs
+
+  state-back : freshTable defaultCapacity defaultIntervalSecs (length (keptIn w .seqs)) (lastOf (keptIn w .secs) (length (keptIn w .seqs))) ≡ w .state
+  state-back = λ i. record {
+    count = seqs-long i;
+    capacity = sym (S .capacity) i;
+    «interval_secs» = sym (S .interval) i;
+    «last_recorded_ts» = (ap (lastOf (keptIn w .secs)) seqs-long ∙ sym (S .last)) i;
+  }
+
+  pairs-back : pairsOf (keptIn w .seqs) (keptIn w .secs) (length (keptIn w .seqs)) ≡ gave tt
+  pairs-back =
+      let n = w .state .count in
+      rw seqs-long
+      (pairs-kept n (keptIn w .seqs) (w .seqs) (keptIn w .secs) (w .secs) (take-take n n (w .seqs) (le-refl n)) (take-take n n (w .secs) (le-refl n))
+      ∙ sorted-again (w .seqs) (w .secs) n (fine (w .state) (w .seqs) (w .secs) (S .good) .pairs))
+
+  judged-back : (left : List ℕ) → judged (read (keptIn w) left) ≡ gave (w .state)
+  judged-back left = rw pairs-back (ap gave state-back)
+
+  -- ---- the table in other arrays
+
+  moved : List ℕ → List ℤ → Table
+  moved seqs secs = record { state = w .state; seqs = over (keptIn w .seqs) seqs; secs = over (keptIn w .secs) secs }
+
+  module _ (seqs : List ℕ) (secs : List ℤ) (lent : Lent seqs secs) where
+    moved-same : Same (moved seqs secs) w
+    unfolding moved
+    moved-same = record {
+      state = refl;
+      alike = record {
+        same-seqs = take-at (keptIn w .seqs) _ (w .state .count) seqs-long;
+        same-secs = take-at (keptIn w .secs) _ (w .state .count) secs-long;
+        room-seqs = rw (S .capacity, over-length (keptIn w .seqs) seqs (omega (arith, seqs-long, at-most, lent .0))) (lent .0);
+        room-seqs′ = agreed-in w S .fit-seqs;
+        room-secs = rw (S .capacity, over-length (keptIn w .secs) secs (omega (arith, secs-long, at-most, lent .1))) (lent .1);
+        room-secs′ = agreed-in w S .fit-secs;
+      };
+    }
+
+    moved-kept : keptIn (moved seqs secs) ≡ keptIn w
+    unfolding moved
+    moved-kept = λ i. record { seqs = moved-same .alike .same-seqs i; secs = moved-same .alike .same-secs i }
+
+    moved-sound : Sound (moved seqs secs)
+    unfolding moved
+    moved-sound =
+        let a = moved-same .alike in
+        let room = roomOf (w .state .capacity) in
+        record {
+          good = check-kept (w .state) (over (keptIn w .seqs) seqs) (w .seqs) (over (keptIn w .secs) secs) (w .secs) (a .same-seqs) (a .same-secs)
+              (le-ltb (length (over (keptIn w .seqs) seqs)) room (a .room-seqs) ∙ sym (le-ltb (length (w .seqs)) room (a .room-seqs′)))
+              (le-ltb (length (over (keptIn w .secs) secs)) room (a .room-secs) ∙ sym (le-ltb (length (w .secs)) room (a .room-secs′)))
+              ∙ S .good;
+          capacity = S .capacity;
+          interval = S .interval;
+          last = rw (a .same-secs) (S .last);
+          seqs64 = λ j h. rw (kept-at (w .state .count) (over (keptIn w .seqs) seqs) (w .seqs) j 0 (a .same-seqs) h) (S .seqs64 j h);
+        }
+
+  -- ---- a strict save
+
+  -- the kept pairs of a good table are as many seconds as sequences, and not too many
+  pub both-pass : (else : Told ℕ) → arraysRule (keptIn w .seqs) (keptIn w .secs) else ≡ else
+  unfolding arraysRule
+  both-pass else = rw (seqs-long, secs-long, eq-eqb (w .state .count) (w .state .count) refl, le-ltb 65536 (w .state .count) (omega (arith, at-most)))
+
+  pub save-is : (out : List ℕ) → saveTo w out ≡ wideRule (wideOf (keptIn w .seqs) (keptIn w .secs)) (roomRule (length (imageFor w)) (length out))
+  save-is out = rw (S .good) (both-pass _)
+
+  -- a save that wrote found no wide difference, and wrote the image
+  pub wrote : (out : List ℕ) (n : ℕ) → saveTo w out ≡ gave n → (wideOf (keptIn w .seqs) (keptIn w .secs) ≡ none) × (length (imageFor w) ≡ n)
+  unfolding roomRule
+  wrote out n e = go (wideOf (keptIn w .seqs) (keptIn w .secs)) (ltb (length out) (length (imageFor w))) (sym (save-is out) ∙ e)
+    where
+      go : (x : Wide) (b : Bool) → wideRule x (cond b (refused (21 ∷ length (imageFor w) ∷ [])) (gave (length (imageFor w)))) ≡ gave n → (x ≡ none) × (length (imageFor w) ≡ n)
+      go none true h = absurd (not-given (21 ∷ length (imageFor w) ∷ []) n h)
+      go none false h = (refl, cc)
+      go (found a i) b h = absurd (not-given (20 ∷ a ∷ i ∷ []) n h)
+
+  module _ (l : Reload) where
+    module _ (n : ℕ) (e : saveTo w (l .out) ≡ gave n) where
+      stored-is : stored w l ≡ imageFor w ++ l .following
+      stored-is = rw (e, take-at (imageFor w) (drop (length (imageFor w)) (l .out)) n (wrote (l .out) n e .1))
+
+      reads-back : readTable (stored w l) ≡ read (keptIn w) (bitsOf (l .following))
+      reads-back =
+          ap readTable stored-is
+          ∙ strict-reads-back (keptIn w) (λ k. leb k 8192) (l .following) kept-fit (le-leb (length (keptIn w .seqs)) 8192 (omega (arith, seqs-long, at-most))) (wrote (l .out) n e .0)
+
+      state-restored : Lent (l .seqs) (l .secs) → restoreTo w l ≡ gave (w .state)
+      state-restored (a, b) = rw (le-ltb (length (l .seqs)) 8192 a, le-ltb (length (l .secs)) 8192 b, reads-back) (judged-back (bitsOf (l .following)))
+
+      reload-is : Lent (l .seqs) (l .secs) → restoredTo w l (restoreTo w l) ≡ moved (l .seqs) (l .secs)
+      unfolding moved
+      reload-is lent = rw (state-restored lent, reads-back)
+
+      pub restores : Lent (l .seqs) (l .secs) → (restoreTo w l ≡ gave (w .state)) × (keptIn (restoredTo w l (restoreTo w l)) ≡ keptIn w)
+      restores lent = (state-restored lent, ap keptIn (reload-is lent) ∙ moved-kept (l .seqs) (l .secs) lent)
+
+    module _ (lent : Lent (l .seqs) (l .secs)) where
+      pub reload-sound : Sound (reloadedTo w l (saveTo w (l .out)))
+      reload-sound = go (saveTo w (l .out)) refl
+        where
+          go : (told : Told ℕ) → saveTo w (l .out) ≡ told → Sound (reloadedTo w l told)
+          go (gave n) e = rw (reload-is n e lent) (moved-sound (l .seqs) (l .secs) lent)
+          go (refused what) e = S
+
+      pub reload-same : Same (reloadedTo w l (saveTo w (l .out))) w
+      reload-same = go (saveTo w (l .out)) refl
+        where
+          go : (told : Told ℕ) → saveTo w (l .out) ≡ told → Same (reloadedTo w l told) w
+          go (gave n) e = rw (reload-is n e lent) (moved-same (l .seqs) (l .secs) lent)
+          go (refused what) e = same-self w S
