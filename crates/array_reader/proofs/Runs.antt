@@ -11,10 +11,10 @@ use lib.Dec.{ltb}
 use lib.ListN.{length, drop, getD, replicate}
 use lib.Seq.{drop-cons}
 use lib.IntN.{pos}
-use Rattle.bits.specs.Bits.{bitAt, bitsAt}
+use Rattle.raw_bits.specs.Bits.{bitAt, bitsAt}
 use Rattle.bits.specs.Place.{posOf}
 use Rattle.bits.specs.declared.Place.{Place}
-use Rattle.bits.proofs.Bits.{bitAt-eq}
+use Rattle.raw_bits.proofs.Bits.{bitAt-eq}
 use Rattle.gorilla.specs.BitList.{bitsOf}
 use Rattle.gorilla.specs.Parser.{read, takeOff, shape}
 use Rattle.gorilla.specs.Places.{bitsFrom}

@@ -8,11 +8,11 @@ use lib.Arith.{digits-div, digits-mod}
 use lib.IntN.{ℤ}
 use lib.ListN.{length, drop, getD}
 use lib.Pow.{pow-mono}
-use Rattle.bits.specs.Bits.{bitAt, bitsAt}
+use Rattle.raw_bits.specs.Bits.{bitAt, bitsAt}
 use Rattle.bits.specs.Place.{posOf, placeOf}
 use Rattle.bits.specs.declared.Place.{Place}
 use Rattle.bits.proofs.Answers.{pos-place}
-use Rattle.bits.proofs.Bits.{bitAt-lt, bitsAt-add, bitsAt-lt}
+use Rattle.raw_bits.proofs.Bits.{bitAt-lt, bitsAt-add, bitsAt-lt}
 use Rattle.gorilla.specs.BitList.{bitsOf}
 use Rattle.gorilla.specs.Parser.{read}
 use Rattle.gorilla.specs.Places.{bitsFrom}

@@ -2,7 +2,7 @@
 ghost use mathlib.Core.Path.{_≡_};
 ghost use Prim.Native.Nat.{ℕ, _+_, _-_, _*_, _%_, _≤_, _<_};
 ghost use lib.ListN.{length};
-ghost use Rattle.bits.specs.Bits.{bitAt};
+ghost use Rattle.raw_bits.specs.Bits.{bitAt};
 ghost use Rattle.bits.specs.Place.{posOf};
 ghost use Rattle.gorilla.specs.Array.{arrayNo};
 ghost use Rattle.gorilla.specs.Parser.{shape};

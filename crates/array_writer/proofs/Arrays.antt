@@ -2,7 +2,6 @@
 use Prim.Native.Nat.{ℕ, _+_, _*_, _≤_, _<_}
 use mathlib.Core.Path.{_≡_, sym, ap, ap₂, _∙_}
 use mathlib.Core.List.{List, _++_}
-use native.Mathlib.Nat.{add-zero}
 use native.Mathlib.Omega.{arith}
 use lib.ListN.{length, getD, length-append}
 use lib.Seq.{sets}
@@ -14,18 +13,11 @@ use Rattle.gorilla.specs.BitList.{natBits, byteLen}
 use Rattle.gorilla.specs.Places.{putList}
 use Rattle.gorilla.specs.Format.{arrayBits, arrayBytes}
 use Rattle.gorilla.proofs.Bridge.{length-natBits}
-use Rattle.gorilla.proofs.Putting.{two-parts, put-append, place-pos}
+use Rattle.gorilla.proofs.Putting.{put-append, place-pos}
 use Rattle.gorilla.proofs.Packing.{put-packed, length-packed}
 use Rattle.gorilla.proofs.ImageTrip.{bits-array}
-use Rattle.array_writer.specs.Parts.{codesOf}
-use Rattle.array_writer.proofs.Codes.{array-none, array-parts, none-length, parts-length}
-
--- the count and the first value
-pub head-put : (s u t : List ℕ) (k n f : ℕ) {p : Place} → p ≡ placeOf (k * 8 + 0 + 32) → u ≡ putList s (k * 8 + 0) (natBits 32 n)
-    → t ≡ putList u (p .byte * 8 + p .bit) (natBits 64 f) → t ≡ putList s (k * 8) (natBits 32 n ++ natBits 64 f)
-head-put s u t k n f {p} e g h =
-    h ∙ ap₂ (λ (l : List ℕ) (q : ℕ). putList l q (natBits 64 f)) g (place-pos (k * 8 + 0 + 32) e) ∙ two-parts s (k * 8 + 0) 32 n 64 f
-    ∙ ap (λ (q : ℕ). putList s q (natBits 32 n ++ natBits 64 f)) (add-zero (k * 8))
+use Rattle.code_writer.specs.Inner.{codesOf}
+use Rattle.code_writer.proofs.Codes.{array-none, array-parts, none-length, parts-length}
 
 module _ (s : List ℕ) (k : ℕ) (xs : List ℤ) (b : (j : ℕ) → getD s j 0 < 256) (r : k * 8 + length (arrayBits xs) ≤ length s * 8) where
   all-put : putList s (k * 8) (arrayBits xs) ≡ sets s k (arrayBytes xs)

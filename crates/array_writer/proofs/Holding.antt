@@ -14,10 +14,10 @@ use Rattle.gorilla.specs.BitList.{natBits}
 use Rattle.gorilla.specs.Places.{putList}
 use Rattle.gorilla.proofs.Bridge.{length-natBits}
 use Rattle.gorilla.proofs.Putting.{length-putList, put-append, place-pos, place-bit}
-use Rattle.array_writer.specs.declared.Held.{Held}
-use Rattle.array_writer.specs.Parts.{codesOf, Leads, heldBits, Fits}
-use Rattle.array_writer.proofs.Codes.{Written, write-first, write-next, write-last}
-use Rattle.array_writer.proofs.Once.{joined-bits, joined-fits}
+use Rattle.code_writer.specs.declared.Held.{Held}
+use Rattle.code_writer.specs.Inner.{codesOf, Leads, heldBits, Fits}
+use Rattle.code_writer.proofs.Codes.{Written, write-first, write-next, write-last}
+use Rattle.code_writer.proofs.Once.{joined-bits, joined-fits}
 
 abbrev pub bit-of : Place → ℕ
 bit-of p = p .byte * 8 + p .bit

@@ -1,5 +1,2 @@
-pub mod Once
-pub mod Codes
-pub mod Runs
-pub mod Holding
-pub mod Arrays
+mod Holding
+mod Arrays

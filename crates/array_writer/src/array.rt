@@ -1,23 +1,25 @@
 // One array, written from a whole byte on.
 ghost use mathlib.Core.Path.{_≡_};
-ghost use mathlib.Core.List.{_++_, map};
-ghost use Prim.Native.Nat.{_+_, _*_, _^_, _≤_, _<_};
+ghost use mathlib.Core.List.{map};
+ghost use Prim.Native.Nat.{_+_, _*_, _≤_, _<_};
 ghost use lib.ListN.{length};
 ghost use lib.Seq.{sets};
 ghost use Rattle.bits.specs.Place.{placeOf};
 ghost use Rattle.signed.specs.Signed.{signed};
-ghost use Rattle.gorilla.specs.BitList.{natBits, byteLen};
 ghost use Rattle.gorilla.specs.Places.{putList};
 ghost use Rattle.gorilla.specs.Format.{arrayBits, arrayBytes};
-ghost use Rattle.array_writer.specs.Parts.{codesOf};
-use crate::Held;
-use crate::code::code_of;
-use crate::code::joined;
-use crate::code::put;
-use crate::code::takes_zero;
-use crate::run::RUN;
-use crate::run::even_secs;
-use crate::run::even_seqs;
+ghost use Rattle.code_writer.specs.Inner.{codesOf};
+use code_writer::Held;
+use code_writer::inner::RUN;
+use code_writer::inner::code_of;
+use code_writer::inner::even_secs;
+use code_writer::inner::even_seqs;
+use code_writer::inner::joined;
+use code_writer::inner::put;
+use code_writer::inner::rounded;
+use code_writer::inner::takes_zero;
+use code_writer::inner::write_head;
+use code_writer::inner::write_none;
 use bits::Place;
 use gorilla::Track;
 use gorilla::inner::advance;
@@ -110,34 +112,6 @@ fn write_sec_codes(buf: &mut [u8], at: Place, secs: &[i64]) -> Place
         held = code;
     }
     put(buf, p, held.value, held.width)
-}
-
-// The count and the first value of an array.
-fn write_head(buf: &mut [u8], from: usize, count: usize, first: u64) -> Place
-    requires { ⌜ from * 8 + 96 ≤ length (now buf) * 8 ⌝ }
-    ensures place { λ r. ⌜ r ≡ placeOf (from * 8 + 96) ⌝ }
-    ensures buf { λ r. ⌜ now (buf .exit) ≡ putList (now (buf .entry)) (from * 8) (natBits 32 count ++ natBits 64 first) ⌝ }
-{
-    let p = put(buf, Place { byte: from, bit: 0 }, count as u64, 32);
-    put(buf, p, first, 64)
-}
-
-// An array of no values: its count.
-fn write_none(buf: &mut [u8], from: usize) -> usize
-    requires { ⌜ from * 8 + 32 ≤ length (now buf) * 8 ⌝ }
-    ensures end { λ r. ⌜ r ≡ from + 4 ⌝ }
-    ensures buf { λ r. ⌜ now (buf .exit) ≡ putList (now (buf .entry)) (from * 8) (natBits 32 0) ⌝ }
-{
-    put(buf, Place { byte: from, bit: 0 }, 0, 32);
-    from + 4
-}
-
-// The whole bytes before a place, the place's own with them where it has begun.
-fn rounded(at: Place) -> usize
-    requires { ⌜ (at .byte < 2 ^ 63) × (at .bit < 8) ⌝ }
-    ensures { λ r. ⌜ r ≡ byteLen (at .byte * 8 + at .bit) ⌝ }
-{
-    at.byte + ((at.bit + 7) / 8) as usize
 }
 
 // The sequences' array from the byte `from` on, and the byte after it.

@@ -1,6 +1,3 @@
-// What our own crates call: an array written, and runs of zero codes.
+// What our own crates call.
 pub use crate::array::write_secs;
 pub use crate::array::write_seqs;
-pub use crate::run::RUN;
-pub use crate::run::even_secs;
-pub use crate::run::even_seqs;

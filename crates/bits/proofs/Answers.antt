@@ -1,6 +1,6 @@
 -- What a read and a write answer, by cases: for the calls' own proofs, and for their callers. Assumes nothing.
 use Prim.Native.Nat.{ℕ, _+_, _-_, _*_, _/_, _%_, _≤_, _<_}
-use mathlib.Core.Path.{_≡_, refl, sym, ap, _∙_}
+use mathlib.Core.Path.{_≡_, refl, sym, ap, ap₂, _∙_}
 use mathlib.Core.Bool.{Bool, true, false, cond}
 use mathlib.Core.List.{List, [], _∷_}
 use native.Mathlib.Omega.{arith}
@@ -8,7 +8,7 @@ use lib.ListN.{length}
 use lib.Dec.{ltb}
 use borrow.Author.Tests.{lt-ltb, le-ltb, ltb-true, ltb-false}
 use Rattle.told.specs.Told.{Told, gave, refused}
-use Rattle.bits.specs.Bits.{bitsAt, putBits}
+use Rattle.raw_bits.specs.Bits.{bitsAt, putBits}
 use Rattle.bits.specs.Place.{posOf, placeOf}
 use Rattle.bits.specs.Read.{Piece, readRule, toldRead}
 use Rattle.bits.specs.Write.{writeRule, written}
@@ -44,6 +44,10 @@ unfolding writeRule written
 write-done s u at v n q h e g d f = rw (← e) (simp (le-ltb _ _ h, le-ltb _ _ g, d), simp (le-ltb _ _ h, le-ltb _ _ g, f))
 
 -- ---- places
+-- the place n bits on
+pub place-on : (b r n : ℕ) → r < 8 → _≡_ {A = Place} (record { byte = b + (r + n) / 8; bit = (r + n) % 8 }) (placeOf (b * 8 + r + n))
+place-on b r n h = ap₂ {C = Place} (λ (x y : ℕ). record { byte = x; bit = y }) (omega arith) (omega arith)
+
 -- the place with q bits before it has q bits before it
 pub pos-place : (len q : ℕ) → q ≤ len * 8 → posOf len (placeOf q) ≡ q
 unfolding posOf

@@ -3,13 +3,10 @@ use Prim.Native.Nat.{ℕ}
 use mathlib.Core.Path.{_≡_, refl, sym, ap, _∙_}
 use mathlib.Core.List.{List, [], _∷_}
 use native.Mathlib.Omega.{arith}
-use denote.Ref.{now}
 use Rattle.told.proofs.Unique.{given-not-refused, same-gift}
 use Rattle.bits.specs.Read.{Piece, toldRead, readRule}
-use Rattle.bits.specs.Reader.{placeIn}
 use Rattle.bits.specs.Write.{toldWrite, writeRule, written}
 use Rattle.bits.specs.declared.Place.{Place}
-use Rattle.bits.specs.declared.reader.BitReader.{BitReader}
 use Rattle.bits.specs.declared.BitsRead.{BitsRead}
 use Rattle.bits.specs.declared.BitsRead.the-variants as rv
 use Rattle.bits.specs.declared.BitsWritten.{BitsWritten}
@@ -44,10 +41,6 @@ write-told (wv.Short n) (wv.Short m) h = cc
 -- `read_bits`, and `read_from`, whose statement is the same
 pub one-read : (s : List ℕ) (at : Place) (n : ℕ) (a b : BitsRead) → toldRead a ≡ readRule s at n → toldRead b ≡ readRule s at n → a ≡ b
 one-read s at n a b h k = read-told a b (h ∙ sym k)
-
--- `BitReader::read`: the bytes and the place are the reader's
-pub one-reader-read : (r : BitReader) (n : ℕ) (a b : BitsRead) → toldRead a ≡ readRule (now (r .buf)) (placeIn r) n → toldRead b ≡ readRule (now (r .buf)) (placeIn r) n → a ≡ b
-one-reader-read r n = one-read (now (r .buf)) (placeIn r) n
 
 -- `write_bits`: its answer, and the buffer
 pub one-write : (s : List ℕ) (at : Place) (v n : ℕ) (a b : BitsWritten) (x y : List ℕ)

@@ -1,5 +1,4 @@
-pub mod Bits
+pub mod Inner
 pub mod Place
 pub mod Read
-pub mod Reader
 pub mod Write

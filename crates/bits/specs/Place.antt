@@ -1,6 +1,5 @@
 -- A place in bytes, and the number of bits before it.
-use Prim.Native.Nat.{ℕ, _+_, _*_, _/_, _%_, _<_, _≤_}
-use mathlib.Core.Path.{_≡_}
+use Prim.Native.Nat.{ℕ, _+_, _*_, _/_, _%_}
 use mathlib.Core.Bool.{cond}
 use lib.Dec.{ltb}
 use Rattle.bits.specs.declared.Place.{Place}
@@ -12,9 +11,3 @@ posOf len at = cond (ltb (at .byte) len) (cond (ltb (at .bit) 8) (at .byte * 8 +
 -- the place with p bits before it
 abbrev pub placeOf : ℕ → Place
 placeOf p = record { byte = p / 8; bit = p % 8 }
-
--- r is the place `at`, or the end of len bytes where that counts as the end
-pub record Settled (len : ℕ) (at r : Place) : Type 0 where
-  pub low : r .bit < 8
-  pub within : r .byte * 8 + r .bit ≤ len * 8
-  pub pos : r .byte * 8 + r .bit ≡ posOf len at

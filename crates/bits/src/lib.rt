@@ -6,12 +6,9 @@
 // answer, whose number in document 01 specs/ lists, and a refused call changes nothing.
 pub mod inner; // inner.rt: the steps, for our own crates: each has a `requires`
 mod read; // read.rt: a read of bits
-mod reader; // reader.rt: a reader, which holds the bytes and a place
 mod write; // write.rt: a write of bits
 
 pub use read::read_bits;
-pub use reader::BitReader;
-pub use reader::read_from;
 pub use write::write_bits;
 
 // A place: a byte, and a bit of it, 0 the most significant. One past the end of a slice, or with a bit

@@ -6,7 +6,7 @@ use crate::Place;
 use crate::inner::after;
 use crate::inner::needed;
 use crate::inner::settle;
-use crate::inner::take_bits;
+use raw_bits::inner::take_bits;
 
 pub fn read_bits(s: &[u8], at: Place, width: u8) -> BitsRead
     ensures { λ r. ⌜ toldRead r ≡ readRule (now (s .entry)) at width ⌝ }

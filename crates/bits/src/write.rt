@@ -5,7 +5,7 @@ use crate::BitsWritten;
 use crate::Place;
 use crate::inner::after;
 use crate::inner::needed;
-use crate::inner::put_bits;
+use raw_bits::inner::put_bits;
 use crate::inner::settle;
 
 pub fn write_bits(buf: &mut [u8], at: Place, value: u64, width: u8) -> BitsWritten

@@ -9,7 +9,7 @@ use lib.Dec.{ltb}
 use lib.IntN.{ℤ}
 use lib.ListN.{length, getD, drop}
 use Rattle.signed.specs.Signed.{pattern}
-use Rattle.bits.proofs.Bits.{one-byte}
+use Rattle.raw_bits.proofs.Bits.{one-byte}
 use Rattle.gorilla.specs.BitList.{bitsOf}
 use Rattle.gorilla.specs.Parser.{read, refused, takeOff}
 use Rattle.gorilla.specs.Reading.{readPart, leCount, readPairs, readImage}

@@ -1,3 +1,2 @@
-pub mod Whole
-pub mod Rules
+mod Rules
 pub mod Unique

@@ -10,8 +10,8 @@ use borrow.Author.Tests.{ltb-true, ltb-false}
 use lib.Dec.{ltb}
 use lib.ListN.{length, getD, drop, length-append, length-drop, List·getD-append, List·getD-eq-default}
 use lib.Seq.{drop-cons, getD-append-add}
-use Rattle.bits.specs.Bits.{bitAt, bitsAt}
-use Rattle.bits.proofs.Bits.{bitsAt-add}
+use Rattle.raw_bits.specs.Bits.{bitAt, bitsAt}
+use Rattle.raw_bits.proofs.Bits.{bitsAt-add}
 use Rattle.gorilla.specs.BitList.{natBits, bitsOf}
 use Rattle.gorilla.specs.Parser.{Read, read, refused, takeOff}
 

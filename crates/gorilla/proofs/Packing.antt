@@ -11,8 +11,8 @@ use lib.Dec.{ltb}
 use lib.ListN.{length, getD, set, take, drop, replicate, length-append, length-take, length-drop, length-replicate, length-set, take-append-drop}
 use lib.Seq.{take-append-le, drop-append-le, take-append-add, take-add, sets, length-take-le, getD-set-same, getD-set-other}
 use lib.Arith.{digits-div, digits-mod}
-use Rattle.bits.specs.Bits.{putBit, putBits}
-use Rattle.bits.proofs.Bits.{putBits-byte}
+use Rattle.raw_bits.specs.Bits.{putBit, putBits}
+use Rattle.raw_bits.proofs.Bits.{putBits-byte}
 use Rattle.gorilla.specs.BitList.{natBits, bitsOf, natFrom, bytesOf, byteLen, packed}
 use Rattle.gorilla.specs.Places.{putList}
 use Rattle.gorilla.proofs.Bridge.{length-natBits, length-bitsOf}

@@ -8,10 +8,10 @@ use lib.ListN.{length, getD, drop, length-set, length-append, drop-of-length-le}
 use lib.Seq.{drop-cons}
 use native.Mathlib.Numerals.{add-one}
 use lib.IntN.{ℤ, pos}
-use Rattle.bits.specs.Bits.{putBit, putBits}
+use Rattle.raw_bits.specs.Bits.{putBit, putBits}
 use Rattle.bits.specs.Place.{placeOf}
 use Rattle.bits.specs.declared.Place.{Place}
-use Rattle.bits.proofs.Bits.{putBits-add}
+use Rattle.raw_bits.proofs.Bits.{putBits-add}
 use Rattle.gorilla.specs.declared.Row.{Row}
 use Rattle.signed.specs.Signed.{subS}
 use Rattle.gorilla.specs.Rows.{rowOf}

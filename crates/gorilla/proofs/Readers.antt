@@ -11,7 +11,7 @@ use Rattle.signed.specs.Extend.{extend, extendRule, toldExtend}
 use Rattle.gorilla.specs.Rows.{decoded}
 use Rattle.gorilla.specs.Rows.{widths}
 use Rattle.signed.proofs.Widths.{taken}
-use Rattle.bits.specs.Bits.{bitsAt}
+use Rattle.raw_bits.specs.Bits.{bitsAt}
 use Rattle.bits.specs.Place.{posOf, placeOf}
 use Rattle.bits.specs.Read.{readRule, toldRead}
 use Rattle.bits.specs.declared.Place.{Place}

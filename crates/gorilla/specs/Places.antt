@@ -2,7 +2,7 @@
 use Prim.Native.Nat.{ℕ, _+_}
 use mathlib.Core.List.{List, [], _∷_}
 use lib.ListN.{length, drop}
-use Rattle.bits.specs.Bits.{putBit}
+use Rattle.raw_bits.specs.Bits.{putBit}
 use Rattle.bits.specs.Place.{posOf}
 use Rattle.bits.specs.declared.Place.{Place}
 use Rattle.gorilla.specs.BitList.{bitsOf}

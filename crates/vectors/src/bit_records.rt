@@ -113,7 +113,7 @@ fn read_one(b: &[u8], from: usize, s: &[u8], at: Place, tally: &mut [u64; tally:
     let number = u8_at(b, after(from, 1));
     let value = u64_at(b, after(from, 2));
     let seen = told(bits::read_bits(s, at, width), at);
-    let held = told(bits::read_from(s, at, width), at);
+    let held = told(bit_reader::read_from(s, at, width), at);
     let agreed = seen_so(seen, number, value) & seen_so(held, number, value);
     tally::note(tally, tally::READS, agreed);
     seen.next

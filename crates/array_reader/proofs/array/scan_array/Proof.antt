@@ -11,7 +11,7 @@ use Rattle.bits.specs.Place.{posOf}
 use Rattle.bits.specs.Read.{toldRead}
 use Rattle.bits.specs.declared.Place.{Place}
 use Rattle.bits.proofs.Answers.{given, too-wide}
-use Rattle.bits.proofs.Bits.{bitsAt-lt}
+use Rattle.raw_bits.proofs.Bits.{bitsAt-lt}
 use Rattle.gorilla.specs.Array.{arrayNo}
 use Rattle.gorilla.specs.BitList.{bitsOf}
 use Rattle.gorilla.specs.Parser.{read, takeOff}

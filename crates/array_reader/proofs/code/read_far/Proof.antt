@@ -12,7 +12,7 @@ use mir.Facts.{toZ-ofZ}
 use Rattle.bits.specs.Place.{posOf}
 use Rattle.bits.specs.Read.{readRule, toldRead}
 use Rattle.bits.specs.declared.Place.{Place}
-use Rattle.bits.proofs.Bits.{bitsAt-lt}
+use Rattle.raw_bits.proofs.Bits.{bitsAt-lt}
 use Rattle.bits.proofs.Answers.{given, too-wide}
 use Rattle.gorilla.specs.Rows.{widths}
 use Rattle.gorilla.specs.Rows.{decoded}

@@ -5,7 +5,7 @@ use mathlib.Core.Path.{_≡_, sym, _∙_}
 use mathlib.Core.List.{List}
 use native.Mathlib.Nat.{not-suc-le-zero}
 use lib.ListN.{length}
-use Rattle.bits.specs.Bits.{bitAt}
+use Rattle.raw_bits.specs.Bits.{bitAt}
 use Rattle.array_reader.proofs.Runs.{byte-zero, word-zero}
 use Rattle.array_reader.proofs.scan.zero_bytes.Statement.{statement}
 use Rattle.array_reader.proofs.scan.zero_bytes.Tie as tie

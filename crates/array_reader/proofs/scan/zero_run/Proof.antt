@@ -5,7 +5,7 @@ use mathlib.Core.Path.{_≡_, sym, ap, ap₂, _∙_}
 use mathlib.Core.List.{List}
 use native.Mathlib.Nat.{add-zero, not-suc-le-zero}
 use lib.ListN.{length}
-use Rattle.bits.specs.Bits.{bitAt}
+use Rattle.raw_bits.specs.Bits.{bitAt}
 use Rattle.bits.specs.Place.{posOf}
 use Rattle.bits.specs.declared.Place.{Place}
 use Rattle.bits.proofs.Answers.{pos-le, pos-place}

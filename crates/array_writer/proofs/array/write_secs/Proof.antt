@@ -8,8 +8,8 @@ use lib.IntN.{ℤ, pos}
 use mir.Facts.{toZ-ofZ}
 use Rattle.signed.specs.Signed.{pattern}
 use Rattle.gorilla.proofs.Putting.{length-putList, place-pos, place-bit}
-use Rattle.array_writer.specs.Parts.{codesOf}
-use Rattle.array_writer.proofs.Codes.{none-length, parts-length}
+use Rattle.code_writer.specs.Inner.{codesOf}
+use Rattle.code_writer.proofs.Codes.{none-length, parts-length}
 use Rattle.array_writer.proofs.Arrays.{none-put, array-put, none-end, array-end}
 use Rattle.array_writer.proofs.array.write_secs.Statement.{statement}
 use Rattle.array_writer.proofs.array.write_secs.Tie as tie

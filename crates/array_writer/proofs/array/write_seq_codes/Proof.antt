@@ -13,10 +13,10 @@ use Rattle.gorilla.specs.Steps.{advanced}
 use Rattle.gorilla.specs.BitList.{natBits}
 use Rattle.gorilla.specs.Format.{codeBits}
 use Rattle.gorilla.proofs.Putting.{length-putList}
-use Rattle.array_writer.specs.Parts.{Leads, Even}
-use Rattle.array_writer.proofs.Once.{zero-code}
-use Rattle.array_writer.proofs.Codes.{leads-one}
-use Rattle.array_writer.proofs.Runs.{leads-run}
+use Rattle.code_writer.specs.Inner.{Leads, Even}
+use Rattle.code_writer.proofs.Once.{zero-code}
+use Rattle.code_writer.proofs.Codes.{leads-one}
+use Rattle.code_writer.proofs.Runs.{leads-run}
 use Rattle.array_writer.proofs.Holding.{Holding, hold-first, hold-same, hold-room, hold-more, hold-put, hold-last}
 use Rattle.array_writer.proofs.array.write_seq_codes.Statement.{statement}
 use Rattle.array_writer.proofs.array.write_seq_codes.Tie as tie

@@ -10,8 +10,8 @@ use Rattle.signed.proofs.Wrapping.{pattern-signed}
 use Rattle.gorilla.specs.BitList.{natBits}
 use Rattle.gorilla.specs.Places.{putList}
 use Rattle.gorilla.proofs.Putting.{length-putList, place-pos, place-bit}
-use Rattle.array_writer.specs.Parts.{codesOf}
-use Rattle.array_writer.proofs.Codes.{none-length, parts-length}
+use Rattle.code_writer.specs.Inner.{codesOf}
+use Rattle.code_writer.proofs.Codes.{none-length, parts-length}
 use Rattle.array_writer.proofs.Arrays.{none-put, array-put, none-end, array-end}
 use Rattle.array_writer.proofs.array.write_seqs.Statement.{statement}
 use Rattle.array_writer.proofs.array.write_seqs.Tie as tie

@@ -1,6 +1,6 @@
 use native.Mathlib.Omega.{arith}
 use borrow.Author.Needs.{needs}
-use Rattle.bits.proofs.Bits.{place-on}
+use Rattle.bits.proofs.Answers.{place-on}
 use Rattle.bits.proofs.inner.after.Statement.{statement}
 use Rattle.bits.proofs.inner.after.Tie as tie
 

@@ -9,7 +9,7 @@ use Rattle.told.specs.Told.{Told, gave, refused}
 use Rattle.gorilla.specs.Format.{imageBytes}
 use Rattle.encoder.specs.Encode.{encodedIn, roomRule}
 use Rattle.encoder.proofs.Rules.{no-room, enough}
-use Rattle.encoder.proofs.Whole.{image-most}
+use Rattle.lengths.proofs.Whole.{image-most}
 use Rattle.encoder.proofs.image.write_if_room.Statement.{statement}
 use Rattle.encoder.proofs.image.write_if_room.Tie as tie
 

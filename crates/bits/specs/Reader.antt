@@ -1,7 +1,0 @@
--- A reader of bits: the bytes that it refers to, and a place in them.
-use Rattle.bits.specs.declared.Place.{Place}
-use Rattle.bits.specs.declared.reader.BitReader.{BitReader}
-
--- the place at which a reader stands
-abbrev pub placeIn : BitReader → Place
-placeIn r = record { byte = r .«byte_pos»; bit = r .«bit_pos» }

@@ -1,0 +1,4 @@
+pub mod Once
+pub mod Codes
+pub mod Runs
+mod Head
