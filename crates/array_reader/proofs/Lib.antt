@@ -1,3 +1,2 @@
-mod Runs
+pub mod Runs
 pub mod Arrays
-mod Filling

@@ -1,25 +1,23 @@
 -- What our own functions promise each other. No public statement cites this file.
-use Prim.Native.Nat.{ℕ, zero, suc, _+_, _-_, _*_, _^_, _≤_, _<_}
+use Prim.Native.Nat.{ℕ, zero, suc, _-_, _*_, _^_, _≤_, _<_}
 use mathlib.Core.Path.{_≡_}
 use mathlib.Core.Bool.{Bool, true}
-use mathlib.Core.List.{List, [], _∷_, _++_}
+use mathlib.Core.List.{List, [], _∷_}
 use lib.Dec.{leb}
 use lib.IntN.{ℤ, pos}
-use lib.ListN.{drop, length, replicate}
+use lib.ListN.{drop, length}
 use Rattle.bits.specs.declared.Place.{Place}
 use Rattle.gorilla.specs.Array.{arrayNo}
 use Rattle.gorilla.specs.declared.Array.{Array}
 use Rattle.gorilla.specs.BitList.{bitsOf}
-use Rattle.gorilla.specs.Parser.{Read, read, refused, Reader, andThen, _>>_, give, align, shape, isRead, readOr}
+use Rattle.gorilla.specs.Parser.{Read, read, refused, andThen, _>>_, give, align, shape, isRead, readOr}
 use Rattle.gorilla.specs.Places.{bitsFrom}
-use Rattle.gorilla.specs.Reading.{readCode, readCodes, readValues, readArray, valuesAfter}
-use Rattle.gorilla.specs.Steps.{followed}
+use Rattle.gorilla.specs.Reading.{readCodes, readValues, readArray, valuesAfter}
 use Rattle.code_reader.specs.Refusal.{told}
 use Rattle.array_reader.specs.declared.scan.Scanned.{Scanned}
 use Rattle.array_reader.specs.declared.scan.Scanned.the-variants as s
 use Rattle.array_reader.specs.declared.array.ArrayScan.{ArrayScan}
 use Rattle.array_reader.specs.declared.array.ArrayScan.the-variants as y
-use Rattle.array_reader.specs.declared.fill.Cursor.{Cursor}
 
 -- ---- answers as what a reader gives, in the bytes xs
 abbrev pub toldScan : List ℕ → Scanned → Read (Unit {0})
@@ -65,16 +63,3 @@ Agrees max room = (n : ℕ) → n < 2 ^ 32 → room n ≡ leb n max
 abbrev pub ReadsArray : List ℕ → ℕ → ℕ → Array → ArrayScan → Type 0
 ReadsArray xs from max a r =
     ((room : ℕ → Bool) → Agrees max room → toldArray xs a r ≡ aligned (readArray (arrayNo a) room (drop (from * 8) (bitsOf xs)))) × PassedArray xs a r
-
--- ---- filling
--- the bits that a cursor has still to read: the zeros that were found already, and those at its place
-abbrev pub ahead : List ℕ → Cursor → List ℕ
-ahead xs c = replicate (c .zeros) 0 ++ bitsFrom xs (c .at)
-
--- the code of index i of array a leads from one cursor to the next
-abbrev pub Stepped : List ℕ → ℕ → ℕ → Cursor → Cursor → Type 0
-Stepped xs a i c r = (d : ℤ) × (read d (ahead xs r) ≡ readCode a i (ahead xs c)) × (r .track ≡ followed (c .track) d)
-
--- a cursor that has no zeros left, and whose next code is there
-abbrev pub CanStep : List ℕ → ℕ → ℕ → Cursor → Type 0
-CanStep xs a i c = (c .zeros ≡ 0) × (8 ≤ length xs) × (isRead (readCode a i (ahead xs c)) ≡ true)

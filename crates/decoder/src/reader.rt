@@ -4,10 +4,10 @@ ghost use Prim.Native.Nat.{min};
 ghost use Rattle.decoder.specs.Decode.{Decodes, toldImageLen, imageLenRule, restRule, restFrom, onwards};
 use crate::Decoded;
 use crate::ImageLen;
-use crate::image::ImageScan;
-use crate::image::scan_image;
-use array_reader::inner::fill_secs;
-use array_reader::inner::fill_seqs;
+use array_filler::inner::fill_secs;
+use array_filler::inner::fill_seqs;
+use image_reader::inner::ImageScan;
+use image_reader::inner::scan_image;
 
 // The greatest count that 32 bits hold.
 const MOST: usize = 4294967295;

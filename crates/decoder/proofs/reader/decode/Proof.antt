@@ -16,9 +16,9 @@ use Rattle.gorilla.specs.Parser.{Read}
 use Rattle.gorilla.specs.Reading.{Pairs}
 use Rattle.decoder.specs.Decode.{listed, countOf}
 use Rattle.array_reader.specs.Inner.{arrayAt, passedAt}
-use Rattle.decoder.specs.Inner.{toldImage, PassedImage}
-use Rattle.decoder.specs.declared.image.ImageScan.{ImageScan}
-use Rattle.decoder.specs.declared.image.Parts.{Parts}
+use Rattle.image_reader.specs.Inner.{toldImage, PassedImage}
+use Rattle.image_reader.specs.declared.image.ImageScan.{ImageScan}
+use Rattle.image_reader.specs.declared.image.Parts.{Parts}
 use Rattle.array_reader.proofs.Arrays.{array-length}
 use Rattle.decoder.proofs.Stored.{seqsOver, secsOver}
 use Rattle.decoder.proofs.reader.decode.Statement.{statement}

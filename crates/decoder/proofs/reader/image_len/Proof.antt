@@ -5,8 +5,8 @@ use mathlib.Core.Bool.{true}
 use mathlib.Core.List.{List}
 use Rattle.told.specs.Told.{gave}
 use Rattle.decoder.specs.Decode.{imageLenOf, imageLenRule}
-use Rattle.decoder.specs.Inner.{toldImage, PassedImage}
-use Rattle.decoder.specs.declared.image.ImageScan.{ImageScan}
+use Rattle.image_reader.specs.Inner.{toldImage, PassedImage}
+use Rattle.image_reader.specs.declared.image.ImageScan.{ImageScan}
 use Rattle.decoder.proofs.Lengths.{no-limit, less-left}
 use Rattle.decoder.proofs.reader.image_len.Statement.{statement}
 use Rattle.decoder.proofs.reader.image_len.Tie as tie
