@@ -1,5 +1,2 @@
 pub mod Runs
-pub mod Window
 pub mod Arrays
-pub mod Filling
-pub mod Unique

@@ -18,15 +18,16 @@ use Rattle.gorilla.specs.RoundTrip.{Fit}
 use Rattle.gorilla.specs.Wide.{none, wideOf}
 use Rattle.gorilla.proofs.Bridge.{length-bitsOf}
 use Rattle.gorilla.proofs.RoundTrip.{reads, strict-reads-back}
-use Rattle.decoder.specs.Decode.{listed, countOf, seqsOver, secsOver, lenOf, lenRule, startOf}
+use Rattle.decoder.specs.Decode.{listed, countOf, imageLenOf, imageLenRule, startOf}
+use Rattle.decoder.proofs.Stored.{seqsOver, secsOver}
 use Rattle.decoder.specs.Following.{imageThen, RestFollows, StrictDecodes}
 
-image-len-is : (p : Pairs) (following : List ℕ) → Fit p → lenRule (imageThen p following) ≡ gave (length (imageBytes (p .seqs) (p .secs)))
-unfolding lenRule
+image-len-is : (p : Pairs) (following : List ℕ) → Fit p → imageLenRule (imageThen p following) ≡ gave (length (imageBytes (p .seqs) (p .secs)))
+unfolding imageLenRule
 image-len-is p following F =
     let b : List ℕ = imageBytes (p .seqs) (p .secs) in
     let e : length (b ++ following) - length (bitsOf following) / 8 ≡ length b = omega (arith, length-append b following, length-bitsOf following) in
-    ap (lenOf (b ++ following)) (reads p (λ n. true) following F refl) ∙ ap gave e
+    ap (imageLenOf (b ++ following)) (reads p (λ n. true) following F refl) ∙ ap gave e
 
 pub rest-follows : RestFollows
 rest-follows p following F =

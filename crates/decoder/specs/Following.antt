@@ -10,7 +10,7 @@ use Rattle.gorilla.specs.Format.{imageBytes}
 use Rattle.gorilla.specs.Reading.{Pairs}
 use Rattle.gorilla.specs.RoundTrip.{Fit}
 use Rattle.gorilla.specs.Wide.{none, wideOf}
-use Rattle.decoder.specs.Decode.{decodeRule, seqsAfter, secsAfter, lenRule, restRule}
+use Rattle.decoder.specs.Decode.{decodeRule, seqsAfter, secsAfter, imageLenRule, restRule}
 
 -- the bytes of pairs' image, and those after it
 abbrev pub imageThen : Pairs → List ℕ → List ℕ
@@ -19,7 +19,7 @@ imageThen p following = imageBytes (p .seqs) (p .secs) ++ following
 -- the image's length is its own, and the rest is the bytes after it
 abbrev pub RestFollows : Type 0
 RestFollows = (p : Pairs) (following : List ℕ) → Fit p
-    → (lenRule (imageThen p following) ≡ gave (length (imageBytes (p .seqs) (p .secs)))) × (restRule (imageThen p following) ≡ following)
+    → (imageLenRule (imageThen p following) ≡ gave (length (imageBytes (p .seqs) (p .secs)))) × (restRule (imageThen p following) ≡ following)
 
 -- pairs whose differences of deltas all lie in -2^31..2^31-1 are read back as themselves, into arrays that have room
 abbrev pub StrictDecodes : Type 0

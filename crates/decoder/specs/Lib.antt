@@ -1,3 +1,2 @@
 pub mod Decode
 pub mod Following
-pub mod Parts

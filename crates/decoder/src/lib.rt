@@ -1,10 +1,8 @@
 // The stored form read back: an image of sequences and seconds, from any bytes. No public call has a `requires`: bytes
 // that are no image are refused by document 01's number, which specs/ lists, and a refused call changes nothing.
-mod image; // image.rt: the header and both arrays, looked over
-pub mod inner; // inner.rt: what our own crates call
 mod reader; // reader.rt: the public calls
 
-pub use array_reader::Refusal;
+pub use code_reader::Refusal;
 pub use reader::decode;
 pub use reader::image_len;
 pub use reader::rest;
