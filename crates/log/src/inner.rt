@@ -1,20 +1,17 @@
-// A log record by record, for our own crates: begun, one step, the answer. Every list of offers goes by these.
+// A log record by record, for our own crates: one step, the answer. Every list of offers goes by these.
 ghost use mathlib.Core.Path.{_≡_};
 ghost use Prim.Native.Nat.{_+_, _<_, _^_};
 ghost use Rattle.told.specs.Told.{gave};
 ghost use Rattle.tracker.specs.Table.{checkOf};
-ghost use Rattle.offers.specs.Whole.{whole};
 ghost use Rattle.log.specs.Log.{toldLog};
-ghost use Rattle.log.specs.Inner.{total, toldProgress, goingOf, stoppedOf, Begins, Steps};
+ghost use Rattle.log.specs.Inner.{total, toldProgress, goingOf, stoppedOf, Steps};
 use crate::Logged;
 use crate::Tally;
 use offers::Offered;
 use offers::inner as offer;
-use tracker::Checked;
 use tracker::Refusal;
 use tracker::SequenceTracker;
 use tracker::TrackedSeq;
-use tracker::check;
 
 pub enum Phase {
     Going,
@@ -31,7 +28,7 @@ pub struct Progress {
 }
 
 // A log that goes on, after so many records.
-pub(crate) fn going(table: SequenceTracker, tally: Tally, end: usize) -> Progress
+pub fn going(table: SequenceTracker, tally: Tally, end: usize) -> Progress
     ensures { λ r. ⌜ r ≡ goingOf table tally end ⌝ }
 {
     Progress {
@@ -53,25 +50,6 @@ fn stopped(table: SequenceTracker, tally: Tally, why: Refusal) -> Progress
         tally: tally,
         phase: Phase::Stopped { at: at, why: why },
         end: 0,
-    }
-}
-
-// A log of n records before the first: a bad table is refused here.
-pub fn begin(seqs: &mut [u64], secs: &mut [i64], table: SequenceTracker, n: usize) -> Progress
-    ensures { λ r. ⌜ Begins (whole table (now (seqs .entry)) (now (secs .entry))) n r (now (seqs .exit)) (now (secs .exit)) ⌝ }
-{
-    let tally = Tally {
-        recorded: 0,
-        skipped: 0,
-    };
-    match check(table, seqs, secs) {
-        Checked::Good => going(table, tally, n),
-        Checked::Refused(why) => Progress {
-            table: table,
-            tally: tally,
-            phase: Phase::Bad(why),
-            end: 0,
-        },
     }
 }
 

@@ -14,8 +14,9 @@ use Rattle.store.specs.Save.{savedIn}
 use Rattle.store.specs.Restore.{restoreOf, seqsAfter, secsAfter}
 use Rattle.answers.specs.Answer.{ofCount}
 use Rattle.answers.specs.declared.Answer.{Answer}
-use Rattle.table_answers.specs.Table.{tableOf, ofTable, ofOffer, ofLog}
-use Rattle.table_answers.specs.declared.State.{State}
+use Rattle.states.specs.State.{tableOf}
+use Rattle.states.specs.declared.State.{State}
+use Rattle.table_answers.specs.Table.{ofTable, ofOffer, ofLog}
 use Rattle.table_answers.specs.declared.TableAnswer.{TableAnswer}
 
 -- an encoder by its rule

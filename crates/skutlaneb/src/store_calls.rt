@@ -2,8 +2,8 @@
 ghost use Rattle.store.specs.Save.{saveOf, saveStrictOf};
 ghost use Rattle.skutlaneb.specs.Calls.{Saves, Restores};
 use answers::Answer;
-use answers::inner;
-use table_answers::State;
+use call_answers as calls;
+use states::State;
 use table_answers::TableAnswer;
 use table_answers::inner as tables;
 
@@ -12,8 +12,8 @@ use table_answers::inner as tables;
 pub extern "C" fn skut_save(state: State, seqs: &[u64], secs: &[i64], out: &mut [u8]) -> Answer
     ensures { λ r. ⌜ Saves saveOf state (now (seqs .entry)) (now (secs .entry)) (now (out .entry)) r (now (out .exit)) ⌝ }
 {
-    let table = tables::table_of(state);
-    inner::of_saved(store::save(table, seqs, secs, out))
+    let table = states::table_of(state);
+    calls::of_saved(store::save(table, seqs, secs, out))
 }
 
 // Gives the bytes written.
@@ -26,8 +26,8 @@ pub extern "C" fn skut_save_strict(
 ) -> Answer
     ensures { λ r. ⌜ Saves saveStrictOf state (now (seqs .entry)) (now (secs .entry)) (now (out .entry)) r (now (out .exit)) ⌝ }
 {
-    let table = tables::table_of(state);
-    inner::of_saved(store::save_strict(table, seqs, secs, out))
+    let table = states::table_of(state);
+    calls::of_saved(store::save_strict(table, seqs, secs, out))
 }
 
 // Needs 130 KB of stack: two arrays of 8,192 are its own.

@@ -5,11 +5,12 @@ ghost use Rattle.tracker.specs.Settings.{newTable, configOf};
 ghost use Rattle.tracker.specs.Table.{checkOf};
 ghost use Rattle.lookup.specs.Find.{findTs, findSeq};
 ghost use Rattle.answers.specs.Answer.{ofCheck, ofTs, ofSeq};
-ghost use Rattle.table_answers.specs.Table.{tableOf, roundOf, ofTable};
+ghost use Rattle.states.specs.State.{tableOf, roundOf};
+ghost use Rattle.table_answers.specs.Table.{ofTable};
 ghost use Rattle.skutlaneb.specs.Calls.{Offers, OffersPairs, Extends};
 use answers::Answer;
-use answers::inner;
-use table_answers::State;
+use call_answers as calls;
+use states::State;
 use table_answers::TableAnswer;
 use table_answers::inner as tables;
 use tracker::Second;
@@ -36,8 +37,8 @@ pub extern "C" fn skut_with_config(capacity: u32, interval_secs: u64) -> TableAn
 pub extern "C" fn skut_check(state: State, seqs: &[u64], secs: &[i64]) -> Answer
     ensures { λ r. ⌜ r ≡ ofCheck (checkOf (tableOf state) (now (seqs .entry)) (now (secs .entry))) ⌝ }
 {
-    let table = tables::table_of(state);
-    inner::of_checked(tracker::check(table, seqs, secs))
+    let table = states::table_of(state);
+    calls::of_checked(tracker::check(table, seqs, secs))
 }
 
 // Recorded is 1 or skipped is 1; skipped, the state is as it was.
@@ -51,7 +52,7 @@ pub extern "C" fn skut_offer(
 ) -> TableAnswer
     ensures { λ r. ⌜ Offers state (now (seqs .entry)) (now (secs .entry)) seq sec r (now (seqs .exit)) (now (secs .exit)) ⌝ }
 {
-    let table = tables::table_of(state);
+    let table = states::table_of(state);
     let offered = offers::offer(table, seqs, secs, Seq(seq), Second(sec));
     tables::of_offered(table, offered)
 }
@@ -67,8 +68,8 @@ pub extern "C" fn skut_offer_pairs(
 ) -> TableAnswer
     ensures { λ r. ⌜ OffersPairs state (now (seqs .entry)) (now (secs .entry)) (now («from_seqs» .entry)) (now («from_secs» .entry)) r (now (seqs .exit)) (now (secs .exit)) ⌝ }
 {
-    let table = tables::table_of(state);
-    tables::of_logged(log::offer_pairs(table, seqs, secs, from_seqs, from_secs))
+    let table = states::table_of(state);
+    tables::of_logged(log_pairs::offer_pairs(table, seqs, secs, from_seqs, from_secs))
 }
 
 // The pairs that another table keeps, offered. A bad table's refusal also tells, last, which it was: 0 the own, 1 the other.
@@ -83,9 +84,9 @@ pub extern "C" fn skut_extend_from(
 ) -> TableAnswer
     ensures { λ r. ⌜ Extends state (now (seqs .entry)) (now (secs .entry)) other (now («other_seqs» .entry)) (now («other_secs» .entry)) r (now (seqs .exit)) (now (secs .exit)) ⌝ }
 {
-    let table = tables::table_of(state);
-    let from = tables::table_of(other);
-    let logged = log::extend_from(table, seqs, secs, from, other_seqs, other_secs);
+    let table = states::table_of(state);
+    let from = states::table_of(other);
+    let logged = log_pairs::extend_from(table, seqs, secs, from, other_seqs, other_secs);
     tables::of_logged(logged)
 }
 
@@ -100,9 +101,9 @@ pub extern "C" fn skut_find_ts(
 ) -> Answer
     ensures { λ r. ⌜ r ≡ ofTs (findTs (tableOf state) (now (seqs .entry)) (now (secs .entry)) (record { 0 = seq }) (roundOf round)) ⌝ }
 {
-    let table = tables::table_of(state);
-    let opt = tables::round_of(round);
-    inner::of_found_ts(lookup::find_ts(table, seqs, secs, Seq(seq), opt))
+    let table = states::table_of(state);
+    let opt = states::round_of(round);
+    calls::of_found_ts(lookup::find_ts(table, seqs, secs, Seq(seq), opt))
 }
 
 // Gives 1 and the sequence for a second, or 0.
@@ -116,7 +117,7 @@ pub extern "C" fn skut_find_seq(
 ) -> Answer
     ensures { λ r. ⌜ r ≡ ofSeq (findSeq (tableOf state) (now (seqs .entry)) (now (secs .entry)) (record { 0 = sec }) (roundOf round)) ⌝ }
 {
-    let table = tables::table_of(state);
-    let opt = tables::round_of(round);
-    inner::of_found_seq(lookup::find_seq(table, seqs, secs, Second(sec), opt))
+    let table = states::table_of(state);
+    let opt = states::round_of(round);
+    calls::of_found_seq(lookup::find_seq(table, seqs, secs, Second(sec), opt))
 }

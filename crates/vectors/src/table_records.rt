@@ -139,7 +139,7 @@ pub fn run(b: &[u8], table: SequenceTracker, seqs: &mut [u64], secs: &mut [i64])
     let mut from_secs = [0i64; lists::MOST];
     let n = u32_at(b, 0);
     lists::make(lists::rule_of(b), &mut from_seqs, &mut from_secs);
-    let logged = log::offer_pairs(
+    let logged = log_pairs::offer_pairs(
         table,
         seqs,
         secs,
@@ -176,7 +176,7 @@ pub fn extended(b: &[u8], table: SequenceTracker, seqs: &mut [u64], secs: &mut [
     let n = u8_at(b, 12);
     lists::read_pairs(b, 13, n, &mut from_seqs, &mut from_secs);
     let other = other_of(b, n, last_of(&from_secs, n));
-    let told = log::extend_from(table, seqs, secs, other, &from_seqs, &from_secs);
+    let told = log_pairs::extend_from(table, seqs, secs, other, &from_seqs, &from_secs);
     extended_so(b, logged_of(told, table))
 }
 
