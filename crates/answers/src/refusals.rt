@@ -8,7 +8,8 @@ ghost use Rattle.answers.specs.Answer.{refusedBy};
 use crate::Answer;
 use gorilla::Array;
 
-pub fn refused(number: u32, a: u64, b: u64, c: u64) -> Answer
+// The only place where an answer is made: 0 and what is given, or a number and what it also tells.
+pub fn answer(number: u32, a: u64, b: u64, c: u64) -> Answer
     ensures { λ r. ⌜ r ≡ record { number = number; a = a; b = b; c = c } ⌝ }
 {
     Answer {
@@ -33,18 +34,18 @@ pub fn reading(why: decoder::Refusal) -> Answer
     ensures { λ r. ⌜ r ≡ refusedBy (reader.told why) ⌝ }
 {
     match why {
-        decoder::Refusal::Empty => refused(1, 0, 0, 0),
-        decoder::Refusal::Version(byte) => refused(2, byte as u64, 0, 0),
-        decoder::Refusal::Header => refused(3, 0, 0, 0),
-        decoder::Refusal::CountCut(array) => refused(4, array_no(array), 0, 0),
-        decoder::Refusal::TooMany(array) => refused(10, array_no(array), 0, 0),
-        decoder::Refusal::FirstCut(array) => refused(5, array_no(array), 0, 0),
-        decoder::Refusal::CodeEnd(array, i) => refused(6, array_no(array), i as u64, 0),
-        decoder::Refusal::PrefixCut(array, i) => refused(7, array_no(array), i as u64, 0),
+        decoder::Refusal::Empty => answer(1, 0, 0, 0),
+        decoder::Refusal::Version(byte) => answer(2, byte as u64, 0, 0),
+        decoder::Refusal::Header => answer(3, 0, 0, 0),
+        decoder::Refusal::CountCut(array) => answer(4, array_no(array), 0, 0),
+        decoder::Refusal::TooMany(array) => answer(10, array_no(array), 0, 0),
+        decoder::Refusal::FirstCut(array) => answer(5, array_no(array), 0, 0),
+        decoder::Refusal::CodeEnd(array, i) => answer(6, array_no(array), i as u64, 0),
+        decoder::Refusal::PrefixCut(array, i) => answer(7, array_no(array), i as u64, 0),
         decoder::Refusal::DiffCut(array, i, width) => {
-            refused(8, array_no(array), i as u64, width as u64)
+            answer(8, array_no(array), i as u64, width as u64)
         }
-        decoder::Refusal::CountDiffers(array) => refused(9, array_no(array), 0, 0),
+        decoder::Refusal::CountDiffers(array) => answer(9, array_no(array), 0, 0),
     }
 }
 
@@ -53,10 +54,10 @@ pub fn encoding(why: encoder::Refusal) -> Answer
     ensures { λ r. ⌜ r ≡ refusedBy (encoding.told why) ⌝ }
 {
     match why {
-        encoder::Refusal::LengthsDiffer => refused(18, 0, 0, 0),
-        encoder::Refusal::TooMany => refused(19, 0, 0, 0),
-        encoder::Refusal::Wide(array, i) => refused(20, array_no(array), i as u64, 0),
-        encoder::Refusal::Room(bytes) => refused(21, bytes as u64, 0, 0),
+        encoder::Refusal::LengthsDiffer => answer(18, 0, 0, 0),
+        encoder::Refusal::TooMany => answer(19, 0, 0, 0),
+        encoder::Refusal::Wide(array, i) => answer(20, array_no(array), i as u64, 0),
+        encoder::Refusal::Room(bytes) => answer(21, bytes as u64, 0, 0),
     }
 }
 
@@ -65,12 +66,12 @@ pub fn of_table(why: tracker::Refusal) -> Answer
     ensures { λ r. ⌜ r ≡ refusedBy (table.told why) ⌝ }
 {
     match why {
-        tracker::Refusal::Disagrees => refused(14, 0, 0, 0),
-        tracker::Refusal::SequenceDrops(i) => refused(11, i as u64, 0, 0),
-        tracker::Refusal::SecondDrops(i) => refused(12, i as u64, 0, 0),
-        tracker::Refusal::SecondOutside(i) => refused(13, i as u64, 0, 0),
-        tracker::Refusal::Settings => refused(15, 0, 0, 0),
-        tracker::Refusal::OfferedOutside => refused(16, 0, 0, 0),
-        tracker::Refusal::OfferedDrops => refused(17, 0, 0, 0),
+        tracker::Refusal::Disagrees => answer(14, 0, 0, 0),
+        tracker::Refusal::SequenceDrops(i) => answer(11, i as u64, 0, 0),
+        tracker::Refusal::SecondDrops(i) => answer(12, i as u64, 0, 0),
+        tracker::Refusal::SecondOutside(i) => answer(13, i as u64, 0, 0),
+        tracker::Refusal::Settings => answer(15, 0, 0, 0),
+        tracker::Refusal::OfferedOutside => answer(16, 0, 0, 0),
+        tracker::Refusal::OfferedDrops => answer(17, 0, 0, 0),
     }
 }

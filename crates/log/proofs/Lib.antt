@@ -3,7 +3,3 @@ pub mod Run
 pub mod Preserved
 pub mod Unique
 mod Moved
-mod Records
-mod Again
-mod Both
-mod Calls

@@ -50,7 +50,7 @@ pub(crate) fn sec_keep(secs: &mut [i64], n: usize, capacity: usize, s: i64)
         j += 1;
         i += STEP;
     }
-    if i == n {
+    if n == i {
         secs[j] = s;
     }
 }

@@ -5,8 +5,8 @@ ghost use Rattle.bits.specs.Write.{writeRule, written};
 ghost use Rattle.signed.specs.Extend.{extendRule};
 ghost use Rattle.answers.specs.Answer.{ofPiece, ofPlace, ofSigned};
 use answers::Answer;
-use answers::inner;
 use bits::Place;
+use call_answers as calls;
 
 // Gives the bits as a number, and the byte and the bit of the place after them.
 #[no_mangle]
@@ -17,7 +17,7 @@ pub extern "C" fn skut_read_bits(s: &[u8], byte: usize, bit: u8, width: u8) -> A
         byte: byte,
         bit: bit,
     };
-    inner::of_read(bits::read_bits(s, at, width))
+    calls::of_read(bits::read_bits(s, at, width))
 }
 
 // Gives the byte and the bit of the place after the bits.
@@ -36,7 +36,7 @@ pub extern "C" fn skut_write_bits(
         byte: byte,
         bit: bit,
     };
-    inner::of_written(bits::write_bits(buf, at, value, width))
+    calls::of_written(bits::write_bits(buf, at, value, width))
 }
 
 // Gives the signed number by its 64 bits.
@@ -44,5 +44,5 @@ pub extern "C" fn skut_write_bits(
 pub extern "C" fn skut_sign_extend(val: u32, bits: u8) -> Answer
     ensures { λ r. ⌜ r ≡ ofSigned (extendRule val bits) ⌝ }
 {
-    inner::of_extension(signed::sign_extend(val, bits))
+    calls::of_extension(signed::sign_extend(val, bits))
 }

@@ -1,36 +1,34 @@
 // Images of arrays, written and read.
 ghost use mathlib.Core.Path.{_≡_};
-ghost use lib.ListN.{length};
 ghost use Rattle.encoder.specs.Encode as encoding;
 ghost use Rattle.decoder.specs.Decode as decoding;
 ghost use Rattle.answers.specs.Answer.{ofCount};
+ghost use Rattle.skutlaneb.specs.Calls.{Encodes};
 use answers::Answer;
-use answers::inner;
+use call_answers as calls;
 
 // Gives the bytes of the image.
 #[no_mangle]
 pub extern "C" fn skut_encoded_len(seqs: &[u64], secs: &[i64]) -> Answer
     ensures { λ r. ⌜ r ≡ ofCount (encoding.lenRule (now (seqs .entry)) (now (secs .entry))) ⌝ }
 {
-    inner::of_encoded_len(encoder::encoded_len(seqs, secs))
+    calls::of_encoded_len(encoder::encoded_len(seqs, secs))
 }
 
 // Gives the bytes written.
 #[no_mangle]
 pub extern "C" fn skut_encode(seqs: &[u64], secs: &[i64], out: &mut [u8]) -> Answer
-    ensures answer { λ r. ⌜ r ≡ ofCount (encoding.encodeRule (now (seqs .entry)) (now (secs .entry)) (length (now (out .entry)))) ⌝ }
-    ensures out { λ r. ⌜ now (out .exit) ≡ encoding.encodedIn (now (seqs .entry)) (now (secs .entry)) (encoding.encodeRule (now (seqs .entry)) (now (secs .entry)) (length (now (out .entry)))) (now (out .entry)) ⌝ }
+    ensures { λ r. ⌜ Encodes encoding.encodeRule (now (seqs .entry)) (now (secs .entry)) (now (out .entry)) r (now (out .exit)) ⌝ }
 {
-    inner::of_encoded(encoder::encode(seqs, secs, out))
+    calls::of_encoded(encoder::encode(seqs, secs, out))
 }
 
 // Gives the bytes written.
 #[no_mangle]
 pub extern "C" fn skut_encode_strict(seqs: &[u64], secs: &[i64], out: &mut [u8]) -> Answer
-    ensures answer { λ r. ⌜ r ≡ ofCount (encoding.strictRule (now (seqs .entry)) (now (secs .entry)) (length (now (out .entry)))) ⌝ }
-    ensures out { λ r. ⌜ now (out .exit) ≡ encoding.encodedIn (now (seqs .entry)) (now (secs .entry)) (encoding.strictRule (now (seqs .entry)) (now (secs .entry)) (length (now (out .entry)))) (now (out .entry)) ⌝ }
+    ensures { λ r. ⌜ Encodes encoding.strictRule (now (seqs .entry)) (now (secs .entry)) (now (out .entry)) r (now (out .exit)) ⌝ }
 {
-    inner::of_encoded(encoder::encode_strict(seqs, secs, out))
+    calls::of_encoded(encoder::encode_strict(seqs, secs, out))
 }
 
 // The list reader. Gives the pair count.
@@ -40,7 +38,7 @@ pub extern "C" fn skut_decode(bytes: &[u8], seqs: &mut [u64], secs: &mut [i64]) 
     ensures seqs { λ r. ⌜ now (seqs .exit) ≡ decoding.seqsAfter (now (bytes .entry)) (now (seqs .entry)) (now (secs .entry)) ⌝ }
     ensures secs { λ r. ⌜ now (secs .exit) ≡ decoding.secsAfter (now (bytes .entry)) (now (seqs .entry)) (now (secs .entry)) ⌝ }
 {
-    inner::of_decoded(decoder::decode(bytes, seqs, secs))
+    calls::of_decoded(decoder::decode(bytes, seqs, secs))
 }
 
 // Gives the image's length: what follows it starts there.
@@ -48,5 +46,5 @@ pub extern "C" fn skut_decode(bytes: &[u8], seqs: &mut [u64], secs: &mut [i64]) 
 pub extern "C" fn skut_image_len(bytes: &[u8]) -> Answer
     ensures { λ r. ⌜ r ≡ ofCount (decoding.imageLenRule (now (bytes .entry))) ⌝ }
 {
-    inner::of_image_len(decoder::image_len(bytes))
+    calls::of_image_len(decoder::image_len(bytes))
 }

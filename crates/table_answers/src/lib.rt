@@ -1,21 +1,12 @@
-// The answers of the calls that give a table, as structs of numbers, for programs in other languages. The crate `answers` has
+// The answers of the calls that give a table, as structs of numbers, for programs in other languages. `call_answers` has
 // the others.
 mod calls; // calls.rt: each call's answer
 pub mod inner; // inner.rt: what our own crates call
 mod refusals; // refusals.rt: a refusal in a list of offers
-mod states; // states.rt: a table's state, in and out
+mod tables; // tables.rt: with a table's state, and with none
 
 use answers::Answer;
-
-// A table's state. `has_last` says whether `last` is there: 0 is no, any other number yes.
-#[repr(C)]
-pub struct State {
-    pub count: usize,
-    pub capacity: u32,
-    pub has_last: u32,
-    pub interval_secs: u64,
-    pub last: i64,
-}
+use states::State;
 
 // What a call answers that gives a state: where it gives none, `state` is one that every call refuses.
 #[repr(C)]

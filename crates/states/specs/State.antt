@@ -1,0 +1,51 @@
+-- A table's state as it crosses to another language and back.
+use Prim.Native.Nat.{ℕ}
+use mathlib.Core.Bool.{cond}
+use lib.Dec.{ltb, eqb}
+use lib.IntN.{ℤ, pos}
+use Rattle.tracker.specs.declared.LastRecorded.{LastRecorded}
+use Rattle.tracker.specs.declared.LastRecorded.the-variants.{Never, At}
+use Rattle.tracker.specs.declared.SequenceTracker.{SequenceTracker}
+use Rattle.lookup.specs.declared.FindOption.{FindOption}
+use Rattle.lookup.specs.declared.FindOption.the-variants.{RoundUp, RoundDown}
+use Rattle.states.specs.declared.State.{State}
+
+-- ---- in: any numbers are taken, and a table that they do not make is for the call to refuse
+
+-- the last recorded second: none where the mark is 0
+abbrev pub lastIn : ℕ → ℤ → LastRecorded
+lastIn mark s = cond (eqb mark 0) Never (At (record { 0 = s }))
+
+-- a capacity above 8,192, which every call refuses with 14
+abbrev pub noCapacity : ℕ
+noCapacity = 4294967295
+
+-- a mark above 1 says neither that a last second is there nor that none is: no table
+abbrev pub tableOf : State → SequenceTracker
+tableOf s = record {
+  count = s .count;
+  capacity = cond (ltb 1 (s .«has_last»)) noCapacity (s .capacity);
+  «interval_secs» = s .«interval_secs»;
+  «last_recorded_ts» = lastIn (s .«has_last») (s .last);
+}
+
+-- 0 rounds up, any other number down
+abbrev pub roundOf : ℕ → FindOption
+roundOf n = cond (eqb n 0) RoundUp RoundDown
+
+-- ---- out
+
+abbrev pub markOf : LastRecorded → ℕ
+markOf Never = 0
+markOf (At s) = 1
+
+abbrev pub secondOf : LastRecorded → ℤ
+secondOf Never = pos 0
+secondOf (At s) = s .0
+
+abbrev pub stateOf : SequenceTracker → State
+stateOf t = record { count = t .count; capacity = t .capacity; «has_last» = markOf (t .«last_recorded_ts»); «interval_secs» = t .«interval_secs»; last = secondOf (t .«last_recorded_ts») }
+
+-- where no state is returned, one that every call refuses
+abbrev pub noState : State
+noState = record { count = 0; capacity = noCapacity; «has_last» = 0; «interval_secs» = 0; last = pos 0 }

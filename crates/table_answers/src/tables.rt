@@ -1,0 +1,51 @@
+// The answers that hold a table's state, and that hold none.
+ghost use mathlib.Core.Path.{_≡_};
+ghost use Rattle.answers.specs.Answer.{given};
+ghost use Rattle.log.specs.Log.{noneYet};
+ghost use Rattle.states.specs.State.{noState};
+ghost use Rattle.table_answers.specs.Table.{withTable};
+use crate::TableAnswer;
+use answers::Answer;
+use answers::inner::answer;
+use log::Tally;
+use tracker::SequenceTracker;
+
+// With a table's state and the numbers recorded and skipped.
+pub fn with_table(answer: Answer, table: SequenceTracker, tally: Tally) -> TableAnswer
+    ensures { λ r. ⌜ r ≡ withTable answer table tally ⌝ }
+{
+    let state = states::state_of(table);
+    TableAnswer {
+        answer: answer,
+        recorded: tally.recorded as u64,
+        skipped: tally.skipped as u64,
+        state: state,
+    }
+}
+
+// Not refused, and no offers made.
+pub fn fresh(table: SequenceTracker) -> TableAnswer
+    ensures { λ r. ⌜ r ≡ withTable (given 0 0 0) table noneYet ⌝ }
+{
+    with_table(
+        answer(0, 0, 0, 0),
+        table,
+        Tally {
+            recorded: 0,
+            skipped: 0,
+        },
+    )
+}
+
+// Refused, with a state that every call refuses.
+pub fn no_table(answer: Answer) -> TableAnswer
+    ensures { λ r. ⌜ r ≡ record { answer = answer; recorded = 0; skipped = 0; state = noState } ⌝ }
+{
+    let state = states::no_state();
+    TableAnswer {
+        answer: answer,
+        recorded: 0,
+        skipped: 0,
+        state: state,
+    }
+}
