@@ -27,8 +27,8 @@ struct skut_answer {
 };
 
 /* A table's state. Its pairs stand in two arrays of the caller's, each of as many places as the capacity says and at least one; `count` places
- * are in use. `has_last` of 0 says that no second was recorded yet; any other number says that `last` is the last recorded one. A caller
- * keeps the state that a call returns and passes it on; it changes nothing in it. */
+ * are in use. `has_last` of 0 says that no second was recorded yet, 1 that `last` is the last recorded one; a state with any other number there is
+ * refused by 14. A caller keeps the state that a call returns and passes it on; it changes nothing in it. */
 struct skut_state {
     size_t count;
     uint32_t capacity;
@@ -65,7 +65,7 @@ enum {
     SKUT_SETTINGS = 15,         /* the capacity is above 8,192 or the interval above 2^63-1 */
     SKUT_OFFERED_OUTSIDE = 16,  /* the offered second is outside the years 0001 to 9999: of a list, the position */
     SKUT_OFFERED_DROPS = 17,    /* the offered sequence is below the last kept one: of a list, the position */
-    SKUT_LENGTHS_DIFFER = 18,   /* the two arrays to encode differ in length */
+    SKUT_LENGTHS_DIFFER = 18,   /* the two arrays to encode, or the two lists of offers, differ in length */
     SKUT_TOO_MANY_VALUES = 19,  /* each array to encode has more than 65,536 values */
     SKUT_WIDE = 20,             /* strict: a difference of deltas is outside -2^31..2^31-1: array, index */
     SKUT_ROOM = 21,             /* the output is too short: the bytes needed */
@@ -82,13 +82,15 @@ struct skut_table_answer skut_new(void);
 /* An empty table: 15. Stack: 256 bytes. */
 struct skut_table_answer skut_with_config(uint32_t capacity, uint64_t interval_secs);
 
-/* Whether a table is good: 14, 11, 12, 13, in this order. Every call below that takes a table checks this first. Stack: 256 bytes. */
+/* Whether a table is good: 14, 11, 12, 13, in this order. Every call below that takes a table checks this first, skut_offer_pairs after 18.
+ * Stack: 256 bytes. */
 struct skut_answer skut_check(struct skut_state state, const uint64_t *seqs, size_t seqs_len, const int64_t *secs, size_t secs_len);
 
 /* Offers a pair: `recorded` is 1, or `skipped` is 1 and the state is as it was; 16, 17. Stack: 512 bytes. */
 struct skut_table_answer skut_offer(struct skut_state state, uint64_t *seqs, size_t seqs_len, int64_t *secs, size_t secs_len, uint64_t seq, int64_t sec);
 
-/* Offers pairs in order, as many as the shorter of two lists has, up to the first that is refused (16, 17). Stack: 768 bytes. */
+/* Offers pairs in order, from two lists of one length, up to the first that is refused (16, 17). Lists of different length are refused before all
+ * else: 18. Stack: 768 bytes. */
 struct skut_table_answer skut_offer_pairs(struct skut_state state, uint64_t *seqs, size_t seqs_len, int64_t *secs, size_t secs_len,
                                           const uint64_t *from_seqs, size_t from_seqs_len, const int64_t *from_secs, size_t from_secs_len);
 

@@ -69,7 +69,7 @@ pub enum Error {
     OfferedOutside,
     /// 17: the offered sequence is below the last kept one.
     OfferedDrops,
-    /// 18: the two arrays to encode differ in length.
+    /// 18: the two arrays to encode, or two lists of offers, differ in length.
     LengthsDiffer,
     /// 19: each array to encode has more than 65,536 values.
     TooManyValues,

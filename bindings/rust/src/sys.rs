@@ -14,7 +14,7 @@ pub struct Answer {
     pub c: u64,
 }
 
-/// A table's state, as calls return it and take it.
+/// A table's state, as calls return it and take it. `has_last` is 0 or 1: a state with any other number there is refused (14).
 #[repr(C)]
 #[derive(Clone, Copy, Debug, PartialEq, Eq)]
 pub struct State {

@@ -25,7 +25,7 @@ fn judged(t: &Table) -> Option<Answer> {
         && t.seqs.len() >= room
         && t.secs.len() >= room
         && s.count <= room
-        && (s.has_last != 0) == (s.count != 0)
+        && s.has_last == (s.count != 0) as u32
         && (s.has_last == 0 || domain.contains(&s.last) && s.last >= t.secs.places()[s.count - 1]);
     if !fits {
         return Some(told(14, 0, 0));
@@ -51,7 +51,7 @@ fn spoiled(chance: &mut Chance) -> Table {
         7 => secs[at] -= 1 + chance.below(50) as i64,
         8 => secs[0] = FIRST_SECOND - 1 - chance.below(9) as i64,
         9 => state.capacity += 3,
-        10 => state.has_last = chance.word() as u32,
+        10 => state.has_last = chance.of(&[2, 3, u32::MAX]),
         11 => seqs[at] = chance.word(),
         _ => secs[at] = chance.word() as i64,
     }
@@ -81,6 +81,7 @@ fn bad_table(tally: &mut Tally, chance: &mut Chance) {
     tally.ruled(kind, input, &rule, &t.check());
     tally.ruled(kind, input, &no_table(rule), &t.offer(chance.word(), chance.word() as i64));
     tally.ruled(kind, input, &no_table(rule), &t.offer_pairs(&[1, 2, 3], &[1, 2, 3]));
+    tally.ruled("lists of offers refused, 18", input, &no_table(told(18, 0, 0)), &t.offer_pairs(&[1, 2, 3], &[1, 2]));
     tally.ruled(kind, input, &no_table(which(0)), &t.extend_from(&own));
     tally.ruled(kind, input, &no_table(which(1)), &own.extend_from(&t));
     tally.ruled(kind, input, &rule, &t.find_ts(chance.word(), 0));

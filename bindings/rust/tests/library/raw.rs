@@ -8,6 +8,8 @@ pub const CASES: &[Case] = &[
     ("the structs are laid out as in C", layout),
     ("a length of 0 needs no memory", no_memory),
     ("a state that no call returned is refused by 14", forged),
+    ("a mark that is neither 0 nor 1 is refused by 14, by every call", neither),
+    ("lists of different length are refused by 18, before the table", uneven),
     ("no call needs more stack than the header says", stack),
 ];
 
@@ -52,6 +54,46 @@ fn forged() {
     }
     assert_eq!((seqs, secs), ([0; 4], [0; 4]));
     assert_eq!(unsafe { sys::skut_check(good, seqs.as_ptr(), 4, secs.as_ptr(), 4) }.number, 0);
+}
+
+fn neither() {
+    let (mut seqs, mut secs, mut out) = ([5u64, 0, 0, 0], [50i64, 0, 0, 0], [7u8; 100]);
+    let none = unsafe { sys::skut_with_config(8193, 0) }.state;
+    let good = State { count: 1, capacity: 4, has_last: 1, interval_secs: 0, last: 50 };
+    for has_last in [2, 3, u32::MAX] {
+        let (state, number) = (State { has_last, ..good }, 14);
+        let (s, z) = (seqs.as_mut_ptr(), secs.as_mut_ptr());
+        let given_none = |a| TableAnswer { answer: Answer { number, a, b: 0, c: 0 }, recorded: 0, skipped: 0, state: none };
+        let refused = Answer { number, a: 0, b: 0, c: 0 };
+        unsafe {
+            assert_eq!(sys::skut_check(state, s, 4, z, 4), refused);
+            assert_eq!(sys::skut_offer(state, s, 4, z, 4, 9, 90), given_none(0));
+            assert_eq!(sys::skut_offer_pairs(state, s, 4, z, 4, &9, 1, &90, 1), given_none(0));
+            assert_eq!(sys::skut_extend_from(state, s, 4, z, 4, good, &9, 1, &90, 1), given_none(0));
+            let other = State { capacity: 1, ..state };
+            assert_eq!(sys::skut_extend_from(good, s, 4, z, 4, other, &9, 1, &50, 1), given_none(1));
+            assert_eq!(sys::skut_find_ts(state, s, 4, z, 4, 5, 0), refused);
+            assert_eq!(sys::skut_find_seq(state, s, 4, z, 4, 50, 0), refused);
+            assert_eq!(sys::skut_save(state, s, 4, z, 4, out.as_mut_ptr(), 100), refused);
+            assert_eq!(sys::skut_save_strict(state, s, 4, z, 4, out.as_mut_ptr(), 100), refused);
+        }
+    }
+    assert_eq!((seqs, secs, out), ([5, 0, 0, 0], [50, 0, 0, 0], [7; 100]));
+    assert_eq!(unsafe { sys::skut_check(good, seqs.as_ptr(), 4, secs.as_ptr(), 4) }.number, 0);
+}
+
+fn uneven() {
+    let (mut seqs, mut secs) = ([7u64; 4], [7i64; 4]);
+    let (from_seqs, from_secs) = ([1u64, 2], [10i64, 20]);
+    let good = unsafe { sys::skut_with_config(4, 0) }.state;
+    let none = unsafe { sys::skut_with_config(8193, 0) }.state;
+    let refused = TableAnswer { answer: Answer { number: 18, a: 0, b: 0, c: 0 }, recorded: 0, skipped: 0, state: none };
+    for (state, n, m) in [(good, 2, 1), (good, 1, 2), (good, 0, 1), (good, 1, 0), (none, 2, 1), (none, 0, 2)] {
+        let (s, z) = (seqs.as_mut_ptr(), secs.as_mut_ptr());
+        let told = unsafe { sys::skut_offer_pairs(state, s, 4, z, 4, from_seqs.as_ptr(), n, from_secs.as_ptr(), m) };
+        assert_eq!(told, refused, "{n} sequences, {m} seconds");
+    }
+    assert_eq!((seqs, secs), ([7; 4], [7; 4]));
 }
 
 const PAIRS: usize = 8192;
