@@ -3,8 +3,8 @@ use mathlib.Core.Path.{_≡_}
 use mathlib.Core.Bool.{Bool, true, false}
 use Prim.Native.Nat.{ℕ, _+_, _≤_, _<_}
 use native.Mathlib.Omega.{arith}
-use Rattle.tracker.proofs.Bools.{other, true-false}
-use Rattle.lookup.specs.Search.{Boundary, Falls}
+use Rattle.order.proofs.Bools.{other, true-false}
+use Rattle.lookup.specs.Inner.{Boundary, Falls}
 
 -- lo and hi bracket the place
 pub record Bracket (t : ℕ → Bool) (n lo hi : ℕ) : Type 0 where

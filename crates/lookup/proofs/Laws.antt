@@ -12,16 +12,14 @@ use lib.IntN.{pos}
 use lib.ListN.{getD, take}
 use lib.Signed.{ltZ}
 use Rattle.told.specs.Told.{Told, gave, refused}
-use Rattle.tracker.specs.First.{first, lastOr}
+use Rattle.order.specs.First.{first, lastOr}
 use Rattle.tracker.specs.Refusal.{ifGood}
 use Rattle.tracker.specs.Table.{checkOf}
-use Rattle.tracker.specs.declared.Seq.{Seq}
-use Rattle.tracker.specs.declared.Second.{Second}
-use Rattle.tracker.proofs.Bools.{not-given}
-use Rattle.tracker.proofs.First.{first-none, first-out, first-same}
+use Rattle.order.proofs.Bools.{not-given}
+use Rattle.order.proofs.First.{first-none, first-out, first-same}
 use Rattle.tracker.proofs.Kept.{kept-at, check-kept}
-use Rattle.lookup.specs.Find.{Partner, partner, nothing, smaller, greater, equal, side, place, partnerAt, partnerTs, partnerSeq}
-use Rattle.lookup.specs.Laws.{onSide, NoKey, NothingTs, NothingSeq, KeptTs, KeptSeq}
+use Rattle.lookup.specs.Find.{Partner, partner, nothing, smaller, greater, equal, side, place, answer}
+use Rattle.lookup.specs.Laws.{onSide, NoKey, NothingExactly, KeptTs, KeptSeq}
 use Rattle.lookup.specs.declared.FindOption.{FindOption}
 use Rattle.lookup.specs.declared.FindOption.the-variants.{RoundUp, RoundDown}
 use Rattle.lookup.proofs.Place.{last-none}
@@ -58,10 +56,10 @@ module _ {K : Type 0} (lt : K → K → Bool) (d : K) (opt : FindOption) (keys :
       go true e h = absurd (omega (arith, ltb-true (first (equal lt d keys x) n) n e))
       go false e h = λ i l. (first-out (equal lt d keys x) n (ltb-false (first (equal lt d keys x) n) n e) i l, side-out opt h i l)
 
-  pub nothing-exactly : {A : Type 0} (a : A) → (partnerAt (place lt d opt keys n x) n a ≡ nothing) ↔ NoKey lt d opt keys n x
-  nothing-exactly a = (λ e. no-key (ltb-false (place lt d opt keys n x) n (unfound (ltb (place lt d opt keys n x) n) e)), λ h. rw (no-place h, le-ltb n n (le-refl n)))
+  no-answer : {A : Type 0} (at : ℕ → A) → (answer lt d opt keys n x at ≡ nothing) ↔ NoKey lt d opt keys n x
+  no-answer at = (λ e. no-key (ltb-false (place lt d opt keys n x) n (unfound (ltb (place lt d opt keys n x) n) e)), λ h. rw (no-place h, le-ltb n n (le-refl n)))
     where
-      unfound : (b : Bool) → cond b (partner a) nothing ≡ nothing → b ≡ false
+      unfound : (b : Bool) → cond b (partner (at (place lt d opt keys n x))) nothing ≡ nothing → b ≡ false
       unfound true e = absurd (let z : _≡_ {A = ℕ} 0 1 = cc in omega arith)
       unfound false e = refl
 
@@ -70,16 +68,10 @@ after-check : {A : Type 0} (t : Told (Unit {0})) (p : Partner A) → (ifGood t (
 after-check (gave _) p = (λ e. (refl, cc), λ h. ap gave (h .1))
 after-check (refused what) p = (λ e. absurd (not-given what nothing e), λ h. absurd (not-given what tt (h .0)))
 
-pub nothing-ts : NothingTs
-nothing-ts table seqs secs seq opt =
-    let exactly = nothing-exactly ltb 0 opt seqs (table .count) (seq .0) {A = Second} (record { 0 = getD secs (place ltb 0 opt seqs (table .count) (seq .0)) (pos 0) }) in
-    let after = after-check (checkOf table seqs secs) (partnerTs table seqs secs seq opt) in
-    (λ e. (after .0 e .0, exactly .0 (after .0 e .1)), λ h. after .1 (h .0, exactly .1 (h .1)))
-
-pub nothing-seq : NothingSeq
-nothing-seq table seqs secs ts opt =
-    let exactly = nothing-exactly ltZ (pos 0) opt secs (table .count) (ts .0) {A = Seq} (record { 0 = getD seqs (place ltZ (pos 0) opt secs (table .count) (ts .0)) 0 }) in
-    let after = after-check (checkOf table seqs secs) (partnerSeq table seqs secs ts opt) in
+pub nothing-exactly : NothingExactly
+nothing-exactly K A lt d opt keys n x at check =
+    let exactly = no-answer lt d opt keys n x at in
+    let after = after-check check (answer lt d opt keys n x at) in
     (λ e. (after .0 e .0, exactly .0 (after .0 e .1)), λ h. after .1 (h .0, exactly .1 (h .1)))
 
 last-same : (t u : ℕ → Bool) (none k : ℕ) → ((j : ℕ) → j < k → t j ≡ u j) → lastOr t none k ≡ lastOr u none k
@@ -103,7 +95,7 @@ module _ {K : Type 0} (lt : K → K → Bool) (d : K) (n : ℕ) (keys keys′ : 
   place-same opt = rw (first-same (equal lt d keys x) (equal lt d keys′ x) n (λ j l. rw (kept-at n keys keys′ j d e l)), side-same opt)
 
 -- and so is what stands there
-partner-same : {A B : Type 0} (n p : ℕ) (xs xs′ : List A) (d : A) (make : A → B) → take n xs ≡ take n xs′ → partnerAt p n (make (getD xs p d)) ≡ partnerAt p n (make (getD xs′ p d))
+partner-same : {A B : Type 0} (n p : ℕ) (xs xs′ : List A) (d : A) (make : A → B) → take n xs ≡ take n xs′ → cond (ltb p n) (partner (make (getD xs p d))) nothing ≡ cond (ltb p n) (partner (make (getD xs′ p d))) nothing
 partner-same n p xs xs′ d make e = go (ltb p n) refl
   where
     go : (b : Bool) → ltb p n ≡ b → cond b (partner (make (getD xs p d))) nothing ≡ cond b (partner (make (getD xs′ p d))) nothing

@@ -1,22 +1,37 @@
 -- Among keys that do not drop, the boundary that a binary search finds tells the place that answers.
 use mathlib.Core.Path.{_≡_, refl}
 use mathlib.Core.Logic.{⊎-elim}
-use mathlib.Core.Bool.{Bool, true, false, not, and-false}
+use mathlib.Core.Bool.{Bool, true, false, not, and-false, true≢false, false≢true}
 use mathlib.Core.List.{List}
 use Prim.Native.Nat.{ℕ, zero, suc, _-_, _≤_, _<_}
 use native.Mathlib.Nat.{eq-or-lt-of-le}
 use native.Mathlib.Omega.{arith}
-use borrow.Author.Tests.{lt-ltb, le-ltb}
+use borrow.Author.Tests.{lt-ltb, le-ltb, leb-true, leb-false}
+use lib.IntN.{ℤ, pos, negsuc}
 use lib.ListN.{getD}
-use Rattle.tracker.specs.First.{first, lastOr}
-use Rattle.tracker.specs.Table.{drops}
-use Rattle.tracker.proofs.Bools.{below-or}
-use Rattle.tracker.proofs.First.{first-is}
-use Rattle.tracker.proofs.Order.{Order, rises}
+use lib.Signed.{ltZ, leZ}
+use Rattle.order.specs.First.{first, lastOr}
+use Rattle.order.specs.Order.{drops}
+use Rattle.order.proofs.Bools.{below-or}
+use Rattle.order.proofs.First.{first-is}
+use Rattle.order.proofs.Order.{Order, rises}
 use Rattle.lookup.specs.Find.{smaller, greater, equal, place}
-use Rattle.lookup.specs.Search.{Boundary, Falls}
+use Rattle.lookup.specs.Inner.{Boundary, Falls}
 use Rattle.lookup.specs.declared.FindOption.{FindOption}
 use Rattle.lookup.specs.declared.FindOption.the-variants.{RoundUp, RoundDown}
+
+-- a signed test "at most", by the order test
+pub at-most : (a b : ℤ) → leZ a b ≡ true → ltZ b a ≡ false
+at-most (pos a) (pos b) e = le-ltb b a (leb-true a b e)
+at-most (pos a) (negsuc b) e = absurd (false≢true e)
+at-most (negsuc a) (pos b) e = refl
+at-most (negsuc a) (negsuc b) e = le-ltb a b (leb-true b a e)
+
+pub above : (a b : ℤ) → leZ a b ≡ false → ltZ b a ≡ true
+above (pos a) (pos b) e = lt-ltb b a (leb-false a b e)
+above (pos a) (negsuc b) e = refl
+above (negsuc a) (pos b) e = absurd (true≢false e)
+above (negsuc a) (negsuc b) e = lt-ltb a b (leb-false b a e)
 
 -- the law on the last index at which a test holds
 last-is : (t : ℕ → Bool) (none k i : ℕ) → i < k → t i ≡ true → ((j : ℕ) → i < j → j < k → t j ≡ false) → lastOr t none k ≡ i

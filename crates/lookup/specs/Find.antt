@@ -7,7 +7,7 @@ use lib.IntN.{ℤ, pos}
 use lib.ListN.{getD}
 use lib.Signed.{ltZ}
 use Rattle.told.specs.Told.{Told, gave}
-use Rattle.tracker.specs.First.{first, final}
+use Rattle.order.specs.First.{first, final}
 use Rattle.tracker.specs.Refusal.{ifGood}
 use Rattle.tracker.specs.Table.{checkOf}
 use Rattle.tracker.specs.declared.Seq.{Seq}
@@ -44,26 +44,14 @@ module _ {K : Type 0} (lt : K → K → Bool) (d : K) where
   abbrev pub place : FindOption → List K → ℕ → K → ℕ
   place opt keys n x = cond (ltb (first (equal keys x) n) n) (first (equal keys x) n) (side opt keys n x)
 
--- what stands at position p of n, or nothing
-abbrev pub partnerAt : {A : Type 0} → ℕ → ℕ → A → Partner A
-partnerAt p n a = cond (ltb p n) (partner a) nothing
+  -- what stands there, or nothing
+  abbrev pub answer : {A : Type 0} → FindOption → List K → ℕ → K → (ℕ → A) → Partner A
+  answer opt keys n x at = cond (ltb (place opt keys n x) n) (partner (at (place opt keys n x))) nothing
 
--- by sequence: the second of the pair that answers
-abbrev pub partnerTs : SequenceTracker → List ℕ → List ℤ → Seq → FindOption → Partner Second
-partnerTs table seqs secs seq opt =
-    let p = place ltb 0 opt seqs (table .count) (seq .0) in
-    partnerAt p (table .count) (record { 0 = getD secs p (pos 0) })
-
--- by second: the sequence of the pair that answers
-abbrev pub partnerSeq : SequenceTracker → List ℕ → List ℤ → Second → FindOption → Partner Seq
-partnerSeq table seqs secs ts opt =
-    let p = place ltZ (pos 0) opt secs (table .count) (ts .0) in
-    partnerAt p (table .count) (record { 0 = getD seqs p 0 })
-
--- `find_ts`: the table is checked first
+-- `find_ts`: the table is checked, then the second of the pair that answers
 abbrev pub findTs : SequenceTracker → List ℕ → List ℤ → Seq → FindOption → Told (Partner Second)
-findTs table seqs secs seq opt = ifGood (checkOf table seqs secs) (gave (partnerTs table seqs secs seq opt))
+findTs table seqs secs seq opt = ifGood (checkOf table seqs secs) (gave (answer ltb 0 opt seqs (table .count) (seq .0) (λ p. record { 0 = getD secs p (pos 0) })))
 
--- `find_seq`, alike
+-- `find_seq`: the sequence of the pair that answers
 abbrev pub findSeq : SequenceTracker → List ℕ → List ℤ → Second → FindOption → Told (Partner Seq)
-findSeq table seqs secs ts opt = ifGood (checkOf table seqs secs) (gave (partnerSeq table seqs secs ts opt))
+findSeq table seqs secs ts opt = ifGood (checkOf table seqs secs) (gave (answer ltZ (pos 0) opt secs (table .count) (ts .0) (λ p. record { 0 = getD seqs p 0 })))

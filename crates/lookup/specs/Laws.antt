@@ -5,16 +5,16 @@ use mathlib.Core.Logic.{_↔_}
 use mathlib.Core.Bool.{Bool, false}
 use mathlib.Core.List.{List}
 use lib.Dec.{ltb}
-use lib.IntN.{ℤ, pos}
+use lib.IntN.{ℤ}
 use lib.ListN.{length}
-use lib.Signed.{ltZ}
-use Rattle.told.specs.Told.{gave}
-use Rattle.tracker.specs.Settings.{roomOf}
-use Rattle.tracker.specs.Table.{kept, checkOf}
+use Rattle.told.specs.Told.{Told, gave}
+use Rattle.limits.specs.Settings.{roomOf}
+use Rattle.tracker.specs.Refusal.{ifGood}
+use Rattle.tracker.specs.Table.{kept}
 use Rattle.tracker.specs.declared.Seq.{Seq}
 use Rattle.tracker.specs.declared.Second.{Second}
 use Rattle.tracker.specs.declared.SequenceTracker.{SequenceTracker}
-use Rattle.lookup.specs.Find.{smaller, greater, equal, nothing, findTs, findSeq}
+use Rattle.lookup.specs.Find.{nothing, smaller, greater, equal, answer, findTs, findSeq}
 use Rattle.lookup.specs.declared.FindOption.{FindOption}
 use Rattle.lookup.specs.declared.FindOption.the-variants.{RoundUp, RoundDown}
 
@@ -27,14 +27,10 @@ onSide lt d RoundDown keys x i = smaller lt d keys x i
 abbrev pub NoKey : {K : Type 0} → (K → K → Bool) → K → FindOption → List K → ℕ → K → Type 0
 NoKey lt d opt keys n x = (i : ℕ) → i < n → (equal lt d keys x i ≡ false) × (onSide lt d opt keys x i ≡ false)
 
--- nothing is answered exactly when (the table is good and) no key equals and none stands on the asked side
-abbrev pub NothingTs : Type 0
-NothingTs = (table : SequenceTracker) (seqs : List ℕ) (secs : List ℤ) (seq : Seq) (opt : FindOption)
-    → (findTs table seqs secs seq opt ≡ gave nothing) ↔ ((checkOf table seqs secs ≡ gave tt) × NoKey ltb 0 opt seqs (table .count) (seq .0))
-
-abbrev pub NothingSeq : Type 0
-NothingSeq = (table : SequenceTracker) (seqs : List ℕ) (secs : List ℤ) (ts : Second) (opt : FindOption)
-    → (findSeq table seqs secs ts opt ≡ gave nothing) ↔ ((checkOf table seqs secs ≡ gave tt) × NoKey ltZ (pos 0) opt secs (table .count) (ts .0))
+-- nothing is answered exactly when (the table is good and) no key equals and none stands on the asked side: of `find_ts` and of `find_seq`
+abbrev pub NothingExactly : Type 1
+NothingExactly = (K A : Type 0) (lt : K → K → Bool) (d : K) (opt : FindOption) (keys : List K) (n : ℕ) (x : K) (at : ℕ → A) (check : Told (Unit {0}))
+    → (ifGood check (gave (answer lt d opt keys n x at)) ≡ gave nothing) ↔ ((check ≡ gave tt) × NoKey lt d opt keys n x)
 
 -- two pairs of arrays with the same kept pairs, each array with the room needed if the other has it
 pub record SameKept (table : SequenceTracker) (seqs seqs′ : List ℕ) (secs secs′ : List ℤ) : Type 0 where

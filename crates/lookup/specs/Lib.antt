@@ -1,4 +1,4 @@
 pub mod Find
 pub mod Found
-pub mod Search
+pub mod Inner
 pub mod Laws

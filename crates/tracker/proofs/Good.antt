@@ -1,5 +1,5 @@
 -- What a table has for which the rules 14, 11, 12 and 13 are passed, and the other way round.
-use mathlib.Core.Path.{_≡_, refl}
+use mathlib.Core.Path.{_≡_, refl, sym, ap, _∙_}
 use mathlib.Core.Bool.{Bool, true, false, cond, _||_}
 use mathlib.Core.List.{List, [], _∷_}
 use Prim.Native.Nat.{ℕ, _≤_, _<_}
@@ -7,15 +7,20 @@ use native.Mathlib.Nat.{le-trans, le-refl}
 use native.Mathlib.Omega.{arith}
 use borrow.Author.Tests.{le-ltb, ltb-false, eqb-true, eqb-false}
 use lib.Dec.{ltb, eqb}
-use lib.IntN.{ℤ}
+use lib.IntN.{ℤ, pos}
 use lib.ListN.{length}
-use Rattle.told.specs.Told.{gave}
-use Rattle.tracker.specs.First.{first}
-use Rattle.tracker.specs.Settings.{roomOf}
-use Rattle.tracker.specs.Table.{seqDrops, secDrops, secOutside, lastMisplaced, lastOutside, lastBelow, disagrees, pairsOf, checkOf}
+use lib.Seq.{length-take-le}
+use lib.Signed.{ltZ}
+use Rattle.told.specs.Told.{Told, gave, refused}
+use Rattle.limits.specs.Settings.{roomOf}
+use Rattle.order.specs.First.{first}
+use Rattle.order.specs.Order.{drops, secOutside}
+use Rattle.order.specs.Inner.{NoneBelow}
+use Rattle.order.proofs.Bools.{neither, passed}
+use Rattle.order.proofs.First.{first-most, first-out, first-none}
+use Rattle.tracker.specs.Table.{lastMisplaced, lastOutside, lastBelow, disagrees, brokenAt, pairsOf, checkOf}
+use Rattle.tracker.specs.Laws.{KeepsPairs}
 use Rattle.tracker.specs.declared.SequenceTracker.{SequenceTracker}
-use Rattle.tracker.proofs.Bools.{neither, passed}
-use Rattle.tracker.proofs.First.{first-out, first-none}
 
 -- the room is at least the capacity, and at least 1
 pub room-is : (c m : ℕ) → roomOf c ≤ m → (c ≤ m) × (0 < m)
@@ -95,31 +100,48 @@ module _ (table : SequenceTracker) (seqs : List ℕ) (secs : List ℤ) where
     pub capacity-secs : (table .capacity ≤ length secs) × (0 < length secs)
     capacity-secs = room-is (table .capacity) (length secs) (a .fit-secs)
 
+-- a second out of domain is told only where none drops: it is enough to look before the first that does
+module _ (t u : ℕ → Bool) (n : ℕ) where
+  before-drop : brokenAt 12 (first t n) n (brokenAt 13 (first u (first t n)) n (gave tt)) ≡ brokenAt 12 (first t n) n (brokenAt 13 (first u n) n (gave tt))
+  before-drop = go (ltb (first t n) n) refl
+    where
+      go : (b : Bool) → ltb (first t n) n ≡ b → cond b (refused (12 ∷ first t n ∷ [])) (brokenAt 13 (first u (first t n)) n (gave tt)) ≡ cond b (refused (12 ∷ first t n ∷ [])) (brokenAt 13 (first u n) n (gave tt))
+      go true e = refl
+      go false e =
+          let whole : first t n ≡ n = omega (arith, ltb-false (first t n) n e, first-most t n) in
+          ap (λ k. brokenAt 13 (first u k) n (gave tt)) whole
+
+-- what is told of the three indices is what is told of the pairs
+pub as-told : (seqs : List ℕ) (secs : List ℤ) (n a b d : ℕ) (w : Told (Unit {0})) → a ≡ first (drops ltb 0 seqs) n → b ≡ first (drops ltZ (pos 0) secs) n → d ≡ first (secOutside secs) b
+    → w ≡ brokenAt 11 a n (brokenAt 12 b n (brokenAt 13 d n (gave tt))) → w ≡ pairsOf seqs secs n
+as-told seqs secs n a b d w ea eb ed e =
+    e ∙ rw (ea, ed, eb) (ap (brokenAt 11 (first (drops ltb 0 seqs) n) n) (before-drop (drops ltZ (pos 0) secs) (secOutside secs) n))
+
 -- the first n pairs are in order and in the domain
 pub record Sorted (seqs : List ℕ) (secs : List ℤ) (n : ℕ) : Type 0 where
-  pub seqs-rise : (j : ℕ) → j < n → seqDrops seqs j ≡ false
-  pub secs-rise : (j : ℕ) → j < n → secDrops secs j ≡ false
-  pub inside : (j : ℕ) → j < n → secOutside secs j ≡ false
+  pub seqs-rise : NoneBelow (drops ltb 0 seqs) n
+  pub secs-rise : NoneBelow (drops ltZ (pos 0) secs) n
+  pub inside : NoneBelow (secOutside secs) n
 
 module _ (seqs : List ℕ) (secs : List ℤ) (n : ℕ) where
   pub sorted : pairsOf seqs secs n ≡ gave tt → Sorted seqs secs n
   sorted h =
-      let a = first (seqDrops seqs) n in
-      let b = first (secDrops secs) n in
+      let a = first (drops ltb 0 seqs) n in
+      let b = first (drops ltZ (pos 0) secs) n in
       let d = first (secOutside secs) n in
       let h11 = passed (ltb a n) (11 ∷ a ∷ []) _ tt h in
       let h12 = passed (ltb b n) (12 ∷ b ∷ []) _ tt (h11 .1) in
       let h13 = passed (ltb d n) (13 ∷ d ∷ []) _ tt (h12 .1) in
       record {
-        seqs-rise = first-out (seqDrops seqs) n (ltb-false a n (h11 .0));
-        secs-rise = first-out (secDrops secs) n (ltb-false b n (h12 .0));
+        seqs-rise = first-out (drops ltb 0 seqs) n (ltb-false a n (h11 .0));
+        secs-rise = first-out (drops ltZ (pos 0) secs) n (ltb-false b n (h12 .0));
         inside = first-out (secOutside secs) n (ltb-false d n (h13 .0));
       }
 
   pub sorted-again : Sorted seqs secs n → pairsOf seqs secs n ≡ gave tt
   sorted-again s =
       let none = le-ltb n n (le-refl n) in
-      rw (first-none (seqDrops seqs) n n (le-refl n) (s .seqs-rise), none, first-none (secDrops secs) n n (le-refl n) (s .secs-rise), none, first-none (secOutside secs) n n (le-refl n) (s .inside), none)
+      rw (first-none (drops ltb 0 seqs) n n (le-refl n) (s .seqs-rise), none, first-none (drops ltZ (pos 0) secs) n n (le-refl n) (s .secs-rise), none, first-none (secOutside secs) n n (le-refl n) (s .inside), none)
 
 -- a good table
 pub record Fine (table : SequenceTracker) (seqs : List ℕ) (secs : List ℤ) : Type 0 where
@@ -134,3 +156,10 @@ module _ (table : SequenceTracker) (seqs : List ℕ) (secs : List ℤ) where
 
   pub fine-again : Fine table seqs secs → checkOf table seqs secs ≡ gave tt
   fine-again f = rw (agreed-again table seqs secs (f .state)) (sorted-again seqs secs (table .count) (f .pairs))
+
+-- a good table keeps as many seconds as sequences, at most 8,192
+pub keeps-pairs : KeepsPairs
+keeps-pairs table seqs secs h =
+    let ok = fine table seqs secs h .state in
+    let p = length-take-le (table .count) seqs (count-seqs table seqs secs ok) in
+    (p ∙ sym (length-take-le (table .count) secs (count-secs table seqs secs ok)), rw p (few table seqs secs ok))

@@ -9,13 +9,14 @@ use lib.IntN.{ℤ, pos}
 use lib.ListN.{length, getD, take}
 use lib.Seq.{getD-take}
 use lib.Signed.{ltZ}
-use Rattle.tracker.specs.First.{first}
-use Rattle.tracker.specs.Settings.{roomOf}
-use Rattle.tracker.specs.Table.{kept, drops, secOutside, lastMisplaced, lastOutside, lastBelow, pairsOf, checkOf}
+use Rattle.limits.specs.Settings.{roomOf}
+use Rattle.order.specs.First.{first}
+use Rattle.order.specs.Order.{drops, secOutside}
+use Rattle.order.proofs.First.{first-same}
+use Rattle.tracker.specs.Table.{kept, lastMisplaced, lastOutside, lastBelow, pairsOf, checkOf}
 use Rattle.tracker.specs.declared.SequenceTracker.{SequenceTracker}
 use Rattle.tracker.specs.declared.LastRecorded.{LastRecorded}
 use Rattle.tracker.specs.declared.LastRecorded.the-variants.{Never, At}
-use Rattle.tracker.proofs.First.{first-same}
 
 -- an element below n is told by the first n
 pub kept-at : {A : Type 0} (n : ℕ) (xs ys : List A) (i : ℕ) (d : A) → take n xs ≡ take n ys → i < n → getD xs i d ≡ getD ys i d

@@ -1,8 +1,4 @@
 -- Laws that belong to no one function.
-pub mod Bools
-pub mod First
-pub mod Order
-pub mod Fours
 pub mod Good
 pub mod Kept
 pub mod Unique

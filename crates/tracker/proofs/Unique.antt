@@ -6,19 +6,11 @@ use Prim.Native.Nat.{ℕ}
 use lib.Dec.{eqb}
 use lib.ListN.{getD}
 use Rattle.told.specs.Told.{Told, gave, refused}
-use Rattle.tracker.specs.Refusal.{told, toldCheck, toldMade}
-use Rattle.tracker.specs.Settings.{newTable}
-use Rattle.tracker.specs.declared.SequenceTracker.{SequenceTracker}
+use Rattle.tracker.specs.Refusal.{told, toldCheck}
 use Rattle.tracker.specs.declared.Refusal.{Refusal}
 use Rattle.tracker.specs.declared.Refusal.the-variants.{Disagrees, SequenceDrops, SecondDrops, SecondOutside, Settings, OfferedOutside, OfferedDrops}
 use Rattle.tracker.specs.declared.Checked.{Checked}
 use Rattle.tracker.specs.declared.Checked.the-variants as checked
-use Rattle.tracker.specs.declared.Made.{Made}
-use Rattle.tracker.specs.declared.Made.the-variants as made
-
--- `new` names its answer
-pub one-new : (a b : SequenceTracker) → a ≡ newTable → b ≡ newTable → a ≡ b
-one-new a b e f = e ∙ sym f
 
 -- where f can be undone, equal values come from equal ones
 pub undone : {A B : Type 0} (f : A → B) (g : B → A) → ((a : A) → g (f a) ≡ a) → (a b : A) → f a ≡ f b → a ≡ b
@@ -55,15 +47,3 @@ one-check = undone toldCheck checkedOf (λ c. back c)
     back : (c : Checked) → checkedOf (toldCheck c) ≡ c
     back checked.Good = refl
     back (checked.Refused r) = ap checked.Refused (refusal-back r)
-
-madeOf : Told SequenceTracker → Made
-madeOf (gave t) = made.Table t
-madeOf (refused l) = made.Refused (refusalOf l)
-
-pub one-made : (a b : Made) → toldMade a ≡ toldMade b → a ≡ b
-unfolding madeOf
-one-made = undone toldMade madeOf (λ m. back m)
-  where
-    back : (m : Made) → madeOf (toldMade m) ≡ m
-    back (made.Table t) = refl
-    back (made.Refused r) = ap made.Refused (refusal-back r)

@@ -1,5 +1,3 @@
-pub mod First
-pub mod Domain
-pub mod Settings
 pub mod Refusal
 pub mod Table
+pub mod Laws

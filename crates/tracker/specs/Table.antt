@@ -7,9 +7,10 @@ use lib.Dec.{ltb, eqb}
 use lib.IntN.{ℤ, pos}
 use lib.Signed.{ltZ}
 use Rattle.told.specs.Told.{Told, gave, refused}
-use Rattle.tracker.specs.First.{first}
-use Rattle.tracker.specs.Domain.{outside}
-use Rattle.tracker.specs.Settings.{badSettings, roomOf}
+use Rattle.limits.specs.Domain.{outside}
+use Rattle.limits.specs.Settings.{badSettings, roomOf}
+use Rattle.order.specs.First.{first}
+use Rattle.order.specs.Order.{drops, secOutside}
 use Rattle.tracker.specs.declared.SequenceTracker.{SequenceTracker}
 use Rattle.tracker.specs.declared.LastRecorded.{LastRecorded}
 use Rattle.tracker.specs.declared.LastRecorded.the-variants.{Never, At}
@@ -17,20 +18,6 @@ use Rattle.tracker.specs.declared.LastRecorded.the-variants.{Never, At}
 -- of an array, what the table keeps
 abbrev pub kept : {A : Type 0} → SequenceTracker → List A → List A
 kept table xs = take (table .count) xs
-
--- the element at i is below the one before (the one at 0 is compared with itself)
-abbrev pub drops : {K : Type 0} → (K → K → Bool) → K → List K → ℕ → Bool
-drops lt d keys i = lt (getD keys i d) (getD keys (i - 1) d)
-
-abbrev pub seqDrops : List ℕ → ℕ → Bool
-seqDrops seqs i = drops ltb 0 seqs i
-
-abbrev pub secDrops : List ℤ → ℕ → Bool
-secDrops secs i = drops ltZ (pos 0) secs i
-
--- the second at i is out of domain
-abbrev pub secOutside : List ℤ → ℕ → Bool
-secOutside secs i = outside (getD secs i (pos 0))
 
 -- a last recorded second present with count 0 or absent otherwise
 abbrev pub lastMisplaced : LastRecorded → ℕ → Bool
@@ -59,13 +46,16 @@ disagrees table seqs secs =
     || lastOutside (table .«last_recorded_ts»)
     || lastBelow (table .«last_recorded_ts») secs (table .count)
 
+-- a rule is broken at i, where i is below n
+abbrev pub brokenAt : ℕ → ℕ → ℕ → Told (Unit {0}) → Told (Unit {0})
+brokenAt number i n next = cond (ltb i n) (refused (number ∷ i ∷ [])) next
+
 -- 11, 12, 13 over the first n pairs, in this order, the lowest index told
 abbrev pub pairsOf : List ℕ → List ℤ → ℕ → Told (Unit {0})
 pairsOf seqs secs n =
-    cond (ltb (first (seqDrops seqs) n) n) (refused (11 ∷ first (seqDrops seqs) n ∷ []))
-    (cond (ltb (first (secDrops secs) n) n) (refused (12 ∷ first (secDrops secs) n ∷ []))
-    (cond (ltb (first (secOutside secs) n) n) (refused (13 ∷ first (secOutside secs) n ∷ []))
-    (gave tt)))
+    brokenAt 11 (first (drops ltb 0 seqs) n) n
+    (brokenAt 12 (first (drops ltZ (pos 0) secs) n) n
+    (brokenAt 13 (first (secOutside secs) n) n (gave tt)))
 
 -- 14, then 11, 12, 13 over the kept pairs
 abbrev pub checkOf : SequenceTracker → List ℕ → List ℤ → Told (Unit {0})

@@ -1,13 +1,11 @@
-// The table of sequence numbers and seconds: its state, its settings and its checks. The pairs stand in
-// two arrays that the caller lends; the state says how many of them are kept.
+// The table of sequence numbers and seconds: its state, and what every call on a table checks. The pairs stand in two arrays
+// that the caller lends; the state says how many of them are kept.
 ghost use mathlib.Core.Path.{_≡_};
-ghost use Rattle.tracker.specs.Refusal.{toldCheck, toldMade};
-ghost use Rattle.tracker.specs.Settings.{newTable, configOf};
+ghost use Rattle.tracker.specs.Refusal.{toldCheck};
 ghost use Rattle.tracker.specs.Table.{checkOf};
 
 pub mod inner;
 mod state;
-mod steps;
 
 // A sequence number and a second are different things: one cannot be passed as the other.
 pub struct Seq(pub u64);
@@ -50,33 +48,6 @@ pub enum Checked {
 pub enum Made {
     Table(SequenceTracker),
     Refused(Refusal),
-}
-
-pub const DEFAULT_CAPACITY: u32 = 8192;
-
-pub const DEFAULT_INTERVAL_SECS: u64 = 60;
-
-// An empty table with the default settings.
-pub fn new() -> SequenceTracker
-    ensures { λ r. ⌜ r ≡ newTable ⌝ }
-{
-    inner::fresh(
-        DEFAULT_CAPACITY,
-        DEFAULT_INTERVAL_SECS,
-        0,
-        LastRecorded::Never,
-    )
-}
-
-// An empty table with the settings named, if they are valid.
-pub fn with_config(capacity: u32, interval_secs: u64) -> Made
-    ensures { λ r. ⌜ toldMade r ≡ configOf capacity «interval_secs» ⌝ }
-{
-    if inner::bad_settings(capacity, interval_secs) {
-        return Made::Refused(Refusal::Settings);
-    }
-    let table = inner::fresh(capacity, interval_secs, 0, LastRecorded::Never);
-    Made::Table(table)
 }
 
 // What every call on a table checks first: that state and arrays agree, then the kept pairs.

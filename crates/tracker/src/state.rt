@@ -6,7 +6,6 @@ ghost use lib.ListN.{length};
 ghost use Rattle.tracker.specs.Table as rules;
 use crate::LastRecorded;
 use crate::SequenceTracker;
-use crate::inner;
 
 fn last_wrong(last: LastRecorded, secs: &[i64], n: usize) -> bool
     requires { ⌜ n ≤ length (now secs) ⌝ }
@@ -19,7 +18,7 @@ fn last_wrong(last: LastRecorded, secs: &[i64], n: usize) -> bool
                 return true;
             }
             let x = s.0;
-            if inner::out_of_domain(x) {
+            if limits::out_of_domain(x) {
                 return true;
             }
             x < secs[n - 1]
@@ -30,10 +29,10 @@ fn last_wrong(last: LastRecorded, secs: &[i64], n: usize) -> bool
 pub(crate) fn disagrees(table: SequenceTracker, seqs: &[u64], secs: &[i64]) -> bool
     ensures { λ r. ⌜ r ≡ rules.disagrees table (now (seqs .entry)) (now (secs .entry)) ⌝ }
 {
-    if inner::bad_settings(table.capacity, table.interval_secs) {
+    if limits::bad_settings(table.capacity, table.interval_secs) {
         return true;
     }
-    let r = inner::room(table.capacity);
+    let r = limits::room(table.capacity);
     if seqs.len() < r {
         return true;
     }

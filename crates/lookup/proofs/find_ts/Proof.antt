@@ -8,7 +8,7 @@ use Rattle.told.specs.Told.{gave}
 use Rattle.tracker.specs.Refusal.{toldCheck}
 use Rattle.tracker.specs.Table.{checkOf}
 use Rattle.tracker.proofs.Good.{Fine, fine, count-seqs, count-secs}
-use Rattle.tracker.proofs.Order.{round}
+use Rattle.order.proofs.Order.{round}
 use Rattle.lookup.proofs.find_ts.Statement.{statement}
 use Rattle.lookup.proofs.find_ts.Tie as tie
 

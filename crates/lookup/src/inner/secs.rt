@@ -1,30 +1,15 @@
 // The search among the first n seconds of a good table, which do not drop: as for the sequences, with signed comparisons.
 ghost use mathlib.Core.Path.{_≡_};
-ghost use mathlib.Core.Bool.{false};
-ghost use Prim.Native.Nat.{ℕ, _≤_, _<_};
+ghost use Prim.Native.Nat.{_≤_};
 ghost use lib.IntN.{pos};
 ghost use lib.ListN.{length};
 ghost use lib.Signed.{ltZ};
-ghost use Rattle.tracker.specs.Table.{secDrops};
-ghost use Rattle.lookup.specs.Find.{smaller, greater, place};
-ghost use Rattle.lookup.specs.Search.{Boundary, Falls};
+ghost use Rattle.order.specs.Order.{drops};
+ghost use Rattle.order.specs.Inner.{NoneBelow};
+ghost use Rattle.lookup.specs.Find.{smaller, place};
+ghost use Rattle.lookup.specs.Inner.{Boundary, Falls};
 use crate::FindOption;
 use tracker::Second;
-
-// A signed comparison is a function of its own, so that its callers see none.
-fn smaller_at(secs: &[i64], i: usize, x: i64) -> bool
-    requires { ⌜ i < length (now secs) ⌝ }
-    ensures { λ r. ⌜ r ≡ smaller ltZ (pos 0) (now (secs .entry)) x i ⌝ }
-{
-    secs[i] < x
-}
-
-fn greater_at(secs: &[i64], i: usize, x: i64) -> bool
-    requires { ⌜ i < length (now secs) ⌝ }
-    ensures { λ r. ⌜ r ≡ greater ltZ (pos 0) (now (secs .entry)) x i ⌝ }
-{
-    x < secs[i]
-}
 
 // The first second that is not below x, or n.
 pub fn lower(secs: &[i64], n: usize, x: i64) -> usize
@@ -35,7 +20,7 @@ pub fn lower(secs: &[i64], n: usize, x: i64) -> usize
     let mut hi = n;
     while lo < hi {
         let mid = lo + (hi - lo) / 2;
-        if smaller_at(secs, mid, x) {
+        if secs[mid] < x {
             lo = mid + 1;
         } else {
             hi = mid;
@@ -45,13 +30,13 @@ pub fn lower(secs: &[i64], n: usize, x: i64) -> usize
 }
 
 pub fn place(secs: &[i64], n: usize, ts: Second, find_opt: FindOption) -> usize
-    requires { ⌜ (n ≤ length (now secs)) × ((j : ℕ) → j < n → secDrops (now secs) j ≡ false) ⌝ }
+    requires { ⌜ (n ≤ length (now secs)) × NoneBelow (drops ltZ (pos 0) (now secs)) n ⌝ }
     ensures { λ r. ⌜ r ≡ place ltZ (pos 0) «find_opt» (now (secs .entry)) n (ts .0) ⌝ }
 {
     let x = ts.0;
     let lo = lower(secs, n, x);
     if lo < n {
-        if !greater_at(secs, lo, x) {
+        if secs[lo] <= x {
             return lo;
         }
     }

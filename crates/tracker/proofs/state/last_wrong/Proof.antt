@@ -7,8 +7,8 @@ use lib.IntN.{pos}
 use lib.ListN.{getD}
 use mir.Syntax.{w64}
 use mir.Val.{toZ, ofZ}
-use Rattle.tracker.specs.Domain.{outside}
-use Rattle.tracker.proofs.Order.{round}
+use Rattle.limits.specs.Domain.{outside}
+use Rattle.order.proofs.Order.{round}
 use Rattle.tracker.proofs.state.last_wrong.Statement.{statement}
 use Rattle.tracker.proofs.state.last_wrong.Tie as tie
 

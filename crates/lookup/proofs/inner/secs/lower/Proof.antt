@@ -1,13 +1,15 @@
-use Prim.Native.Nat.{_-_}
+use Prim.Native.Nat.{_+_, _-_, _/_}
 use native.Mathlib.Omega.{arith}
-use mathlib.Core.Path.{sym, _∙_}
+use mathlib.Core.Path.{_≡_}
 use lib.IntN.{pos}
+use lib.ListN.{getD}
 use lib.Signed.{ltZ}
 use mir.Syntax.{w64}
 use mir.Val.{toZ, ofZ}
 use mir.Facts.{toZ-ofZ}
+use Rattle.order.proofs.Order.{round}
 use Rattle.lookup.specs.Find.{smaller}
-use Rattle.lookup.specs.Search.{Falls}
+use Rattle.lookup.specs.Inner.{Falls}
 use Rattle.lookup.proofs.Bound.{Bracket, start, up, down, finish}
 use Rattle.lookup.proofs.inner.secs.lower.Statement.{statement}
 use Rattle.lookup.proofs.inner.secs.lower.Tie as tie
@@ -31,8 +33,16 @@ sub-mid c = omega arith
 add-mid : tie.Need-add-mid Inv-loop μ-loop
 add-mid c = omega arith
 
-smaller-at-requires : tie.Need-smaller-at-requires Inv-loop μ-loop
-smaller-at-requires c κs = omega arith
+mul-if1 : tie.Need-mul-if1 Inv-loop μ-loop
+mul-if1 c = omega arith
+
+shared-slice-copy-out-if1 : tie.Need-shared-slice-copy-out-if1 Inv-loop μ-loop
+shared-slice-copy-out-if1 c = omega arith
+
+-- the second in the middle, as it is read
+middle : (c : tie.After-if12 Inv-loop μ-loop)
+    → let l = c .before .before .loop in let z = getD (c .before .before .before .args .secs .now) (l .lo + (l .hi - l .lo) / 2) (pos 0) in toZ w64 (ofZ w64 z) ≡ z
+middle c = round _ (c .if12 .given)
 
 add-lo : tie.Need-add-lo Inv-loop μ-loop
 add-lo c = omega arith
@@ -41,13 +51,13 @@ loop-less : tie.Need-loop-less Inv-loop μ-loop
 loop-less c = omega arith
 
 loop-again : tie.Need-loop-again Inv-loop μ-loop
-loop-again c = up _ _ (falling (c .before .before .before .before)) _ _ (c .before .before .before .loop .inv) _ (omega arith) (omega arith) (sym (c .before .smaller-at .ensures) ∙ c .if1 .taken)
+loop-again c = up _ _ (falling (c .before .before .before .before)) _ _ (c .before .before .before .loop .inv) _ (omega arith) (omega arith) (rw (middle (c .before)) at (c .if1 .taken))
 
 loop-less-2 : tie.Need-loop-less-2 Inv-loop μ-loop
 loop-less-2 c = omega arith
 
 loop-again-2 : tie.Need-loop-again-2 Inv-loop μ-loop
-loop-again-2 c = down _ _ (falling (c .before .before .before .before)) _ _ (c .before .before .before .loop .inv) _ (omega arith) (omega arith) (sym (c .before .smaller-at .ensures) ∙ c .if1 .left)
+loop-again-2 c = down _ _ (falling (c .before .before .before .before)) _ _ (c .before .before .before .loop .inv) _ (omega arith) (omega arith) (rw (middle (c .before)) at (c .if1 .left))
 
 returns : tie.Need-returns Inv-loop μ-loop
 returns c = rw (toZ-ofZ (c .before .before .fits .x)) at (finish _ _ _ _ (c .before .loop .inv) (c .loop-test .left))
@@ -61,7 +71,8 @@ lower-spec =
     loop-holds
     sub-mid
     add-mid
-    smaller-at-requires
+    mul-if1
+    shared-slice-copy-out-if1
     add-lo
     loop-less
     loop-again

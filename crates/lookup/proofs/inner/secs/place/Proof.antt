@@ -1,18 +1,18 @@
 use borrow.Author.Needs.{needs}
-use borrow.Author.Tests.{not-true, not-false}
 use native.Mathlib.Nat.{pos-of-ne-zero}
 use native.Mathlib.Omega.{arith}
-use mathlib.Core.Path.{_≡_, sym, _∙_}
+use mathlib.Core.Path.{_≡_, sym}
 use mathlib.Core.Logic.{⊎-elim}
 use mathlib.Core.Bool.{true}
 use Prim.Native.Nat.{_<_}
 use lib.IntN.{pos}
+use lib.ListN.{getD}
 use lib.Signed.{ltZ}
-use Rattle.tracker.proofs.Order.{int-order}
+use Rattle.order.proofs.Order.{int-order, round}
 use mir.Syntax.{w64}
 use mir.Val.{toZ, ofZ}
 use Rattle.lookup.specs.Find.{greater}
-use Rattle.lookup.proofs.Place.{falls, place-equal, place-up, place-down, place-none}
+use Rattle.lookup.proofs.Place.{at-most, above, falls, place-equal, place-up, place-down, place-none}
 use Rattle.lookup.proofs.inner.secs.place.Statement.{statement}
 use Rattle.lookup.proofs.inner.secs.place.Tie as tie
 
@@ -22,17 +22,24 @@ whole c = search needs
 lower-requires : tie.Need-lower-requires
 lower-requires c κs = (c .before .pre .0, falls ltZ int-order (pos 0) (c .before .args .secs .now) _ (c .before .pre .1) (toZ w64 (ofZ w64 (c .before .args .ts .0))))
 
-greater-at-requires : tie.Need-greater-at-requires
-greater-at-requires c κs = search needs
+mul-if2 : tie.Need-mul-if2
+mul-if2 c = search needs
+
+shared-slice-copy-out-if2 : tie.Need-shared-slice-copy-out-if2
+shared-slice-copy-out-if2 c = search needs
+
+-- the second at the boundary, as it is read
+read : (c : tie.After-if22) → let z = getD (c .before .before .before .before .args .secs .now) (c .before .before .lower .result) (pos 0) in toZ w64 (ofZ w64 z) ≡ z
+read c = round _ (c .if22 .given)
 
 returns : tie.Need-returns
 returns c =
     let s = c .before .before .before .before .before in
-    rw (← whole (c .before .before .before .before)) (sym (place-equal ltZ int-order (pos 0) (s .args .secs .now) _ (s .pre .1) (toZ w64 (ofZ w64 (s .args .ts .0))) _ (c .before .before .before .lower .ensures) (s .args .find-opt) (c .before .before .if1 .taken) (sym (c .before .greater-at .ensures) ∙ not-true _ (c .if2 .taken))))
+    rw (← whole (c .before .before .before .before)) (sym (place-equal ltZ int-order (pos 0) (s .args .secs .now) _ (s .pre .1) (toZ w64 (ofZ w64 (s .args .ts .0))) _ (c .before .before .before .lower .ensures) (s .args .find-opt) (c .before .before .if1 .taken) (at-most (getD (s .args .secs .now) (c .before .before .before .lower .result) (pos 0)) (toZ w64 (ofZ w64 (s .args .ts .0))) (rw (read (c .before)) at (c .if2 .taken)))))
 
 -- where the arms meet, no key is equal
 late : (c : tie.Joined1) → c .before .lower .result < c .before .before .before .args .n → greater ltZ (pos 0) (c .before .before .before .args .secs .now) (toZ w64 (ofZ w64 (c .before .before .before .args .ts .0))) (c .before .lower .result) ≡ true
-late c l = ⊎-elim (λ w. sym (w .1 .ensures) ∙ not-false _ (w .2 .left)) (λ w. absurd (omega arith)) (c .if1 .came)
+late c l = ⊎-elim (λ w. above (getD (c .before .before .before .args .secs .now) (c .before .lower .result) (pos 0)) (toZ w64 (ofZ w64 (c .before .before .before .args .ts .0))) (rw (read (record { before = record { before = c .before; if1 = w .0 }; if22 = w .1 })) at (w .2 .left))) (λ w. absurd (omega arith)) (c .if1 .came)
 
 enum-told : tie.Need-enum-told
 enum-told c = search needs
@@ -66,7 +73,8 @@ place-spec =
     tie.close
     (tie.spec
     lower-requires
-    greater-at-requires
+    mul-if2
+    shared-slice-copy-out-if2
     returns
     enum-told
     enum-told-2

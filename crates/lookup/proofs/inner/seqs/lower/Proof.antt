@@ -1,6 +1,6 @@
 use Prim.Native.Nat.{_-_}
 use native.Mathlib.Omega.{arith}
-use mathlib.Core.Path.{sym, _∙_}
+use borrow.Author.Tests.{lt-ltb, le-ltb}
 use lib.Dec.{ltb}
 use Rattle.lookup.specs.Find.{smaller}
 use Rattle.lookup.proofs.Bound.{Bracket, start, up, down, finish}
@@ -22,8 +22,11 @@ sub-mid c = omega arith
 add-mid : tie.Need-add-mid Inv-loop μ-loop
 add-mid c = omega arith
 
-smaller-at-requires : tie.Need-smaller-at-requires Inv-loop μ-loop
-smaller-at-requires c κs = omega arith
+mul-if1 : tie.Need-mul-if1 Inv-loop μ-loop
+mul-if1 c = omega arith
+
+shared-slice-read-if1 : tie.Need-shared-slice-read-if1 Inv-loop μ-loop
+shared-slice-read-if1 c = omega arith
 
 add-lo : tie.Need-add-lo Inv-loop μ-loop
 add-lo c = omega arith
@@ -32,13 +35,13 @@ loop-less : tie.Need-loop-less Inv-loop μ-loop
 loop-less c = omega arith
 
 loop-again : tie.Need-loop-again Inv-loop μ-loop
-loop-again c = up _ _ (c .before .before .before .before .before .pre .1) _ _ (c .before .before .before .loop .inv) _ (omega arith) (omega arith) (sym (c .before .smaller-at .ensures) ∙ c .if1 .taken)
+loop-again c = up _ _ (c .before .before .before .before .pre .1) _ _ (c .before .before .before .loop .inv) _ (omega arith) (omega arith) (lt-ltb _ _ (c .if1 .taken))
 
 loop-less-2 : tie.Need-loop-less-2 Inv-loop μ-loop
 loop-less-2 c = omega arith
 
 loop-again-2 : tie.Need-loop-again-2 Inv-loop μ-loop
-loop-again-2 c = down _ _ (c .before .before .before .before .before .pre .1) _ _ (c .before .before .before .loop .inv) _ (omega arith) (omega arith) (sym (c .before .smaller-at .ensures) ∙ c .if1 .left)
+loop-again-2 c = down _ _ (c .before .before .before .before .pre .1) _ _ (c .before .before .before .loop .inv) _ (omega arith) (omega arith) (le-ltb _ _ (c .if1 .left))
 
 returns : tie.Need-returns Inv-loop μ-loop
 returns c = finish _ _ _ _ (c .before .loop .inv) (c .loop-test .left)
@@ -52,7 +55,8 @@ lower-spec =
     loop-holds
     sub-mid
     add-mid
-    smaller-at-requires
+    mul-if1
+    shared-slice-read-if1
     add-lo
     loop-less
     loop-again

@@ -1,13 +1,13 @@
 use borrow.Author.Needs.{needs}
-use borrow.Author.Tests.{not-true, not-false}
+use borrow.Author.Tests.{lt-ltb, le-ltb}
 use native.Mathlib.Nat.{pos-of-ne-zero}
 use native.Mathlib.Omega.{arith}
-use mathlib.Core.Path.{_≡_, sym, _∙_}
+use mathlib.Core.Path.{_≡_, sym}
 use mathlib.Core.Logic.{⊎-elim}
 use mathlib.Core.Bool.{true}
 use Prim.Native.Nat.{_<_}
 use lib.Dec.{ltb}
-use Rattle.tracker.proofs.Order.{nat-order}
+use Rattle.order.proofs.Order.{nat-order}
 use Rattle.lookup.specs.Find.{greater}
 use Rattle.lookup.proofs.Place.{falls, place-equal, place-up, place-down, place-none}
 use Rattle.lookup.proofs.inner.seqs.place.Statement.{statement}
@@ -16,17 +16,20 @@ use Rattle.lookup.proofs.inner.seqs.place.Tie as tie
 lower-requires : tie.Need-lower-requires
 lower-requires c κs = (c .before .pre .0, falls ltb nat-order 0 (c .before .args .seqs .now) _ (c .before .pre .1) (c .before .args .seq .0))
 
-greater-at-requires : tie.Need-greater-at-requires
-greater-at-requires c κs = search needs
+mul-if2 : tie.Need-mul-if2
+mul-if2 c = search needs
+
+shared-slice-read-if2 : tie.Need-shared-slice-read-if2
+shared-slice-read-if2 c = search needs
 
 returns : tie.Need-returns
 returns c =
     let s = c .before .before .before .before .before in
-    sym (place-equal ltb nat-order 0 (s .args .seqs .now) _ (s .pre .1) (s .args .seq .0) _ (c .before .before .before .lower .ensures) (s .args .find-opt) (c .before .before .if1 .taken) (sym (c .before .greater-at .ensures) ∙ not-true _ (c .if2 .taken)))
+    sym (place-equal ltb nat-order 0 (s .args .seqs .now) _ (s .pre .1) (s .args .seq .0) _ (c .before .before .before .lower .ensures) (s .args .find-opt) (c .before .before .if1 .taken) (le-ltb _ _ (c .if2 .taken)))
 
 -- where the arms meet, no key is equal
 late : (c : tie.Joined1) → c .before .lower .result < c .before .before .before .args .n → greater ltb 0 (c .before .before .before .args .seqs .now) (c .before .before .before .args .seq .0) (c .before .lower .result) ≡ true
-late c l = ⊎-elim (λ w. sym (w .1 .ensures) ∙ not-false _ (w .2 .left)) (λ w. absurd (omega arith)) (c .if1 .came)
+late c l = ⊎-elim (λ w. lt-ltb _ _ (w .2 .left)) (λ w. absurd (omega arith)) (c .if1 .came)
 
 enum-told : tie.Need-enum-told
 enum-told c = search needs
@@ -60,7 +63,8 @@ place-spec =
     tie.close
     (tie.spec
     lower-requires
-    greater-at-requires
+    mul-if2
+    shared-slice-read-if2
     returns
     enum-told
     enum-told-2

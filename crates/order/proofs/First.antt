@@ -1,0 +1,78 @@
+-- The one law on the first index at which a test holds: it is i, where the test fails below i, and holds at i if i is below n.
+use mathlib.Core.Path.{_≡_, refl}
+use mathlib.Core.Logic.{⊎-elim}
+use mathlib.Core.Bool.{Bool, true, false, cond}
+use Prim.Native.Nat.{ℕ, zero, suc, _+_, _≤_, _<_}
+use native.Mathlib.Nat.{eq-or-lt-of-le, add-suc}
+use native.Mathlib.Omega.{arith}
+use Rattle.order.specs.First.{firstFrom, first}
+
+from-is : (t : ℕ → Bool) (n k i : ℕ) → k ≤ i → i ≤ k + n → ((j : ℕ) → k ≤ j → j < i → t j ≡ false) → (i < k + n → t i ≡ true) → firstFrom t k n ≡ i
+unfolding firstFrom
+from-is t zero k i ki ik out hit = omega arith
+from-is t (suc n) k i ki ik out hit =
+    ⊎-elim (λ e. rw (e, hit (omega arith)))
+    (λ l. rw (out k (omega arith) l) (from-is t n (suc k) i l (omega arith) (λ j a b. out j (omega arith) b) (λ h. hit (omega arith))))
+    (eq-or-lt-of-le ki)
+
+pub first-is : (t : ℕ → Bool) (n i : ℕ) → i ≤ n → ((j : ℕ) → j < i → t j ≡ false) → (i < n → t i ≡ true) → first t n ≡ i
+first-is t n i h out hit = from-is t n 0 i (omega arith) (omega arith) (λ j _ l. out j l) (λ l. hit (omega arith))
+
+-- a whole walk without a hit
+pub first-none : (t : ℕ → Bool) (n i : ℕ) → n ≤ i → ((j : ℕ) → j < i → t j ≡ false) → first t n ≡ n
+first-none t n i h out = first-is t n n (omega arith) (λ j l. out j (omega arith)) (λ l. absurd (omega arith))
+
+-- a hit
+pub first-hit : (t : ℕ → Bool) (n i : ℕ) → i < n → ((j : ℕ) → j < i → t j ≡ false) → t i ≡ true → first t n ≡ i
+first-hit t n i h out hit = first-is t n i (omega arith) out (λ _. hit)
+
+-- where the test holds at j, the first index is not above j
+from-le : (t : ℕ → Bool) (n k j : ℕ) → k ≤ j → j < k + n → t j ≡ true → firstFrom t k n ≤ j
+unfolding firstFrom
+from-le t zero k j kj jk hit = absurd (omega arith)
+from-le t (suc n) k j kj jk hit =
+    ⊎-elim (λ (e : k ≡ j). rw (e, hit) (omega arith))
+    (λ (l : k < j). pick (t k) (from-le t n (suc k) j l (omega arith) hit))
+    (eq-or-lt-of-le kj)
+  where
+    pick : (b : Bool) → firstFrom t (suc k) n ≤ j → cond b k (firstFrom t (suc k) n) ≤ j
+    pick true h = kj
+    pick false h = h
+
+-- where there is no hit the test fails all along
+pub first-out : (t : ℕ → Bool) (n : ℕ) → n ≤ first t n → (j : ℕ) → j < n → t j ≡ false
+first-out t n h j l = go (t j) refl
+  where
+    go : (b : Bool) → t j ≡ b → b ≡ false
+    go true e = absurd (omega (arith, from-le t n 0 j (omega arith) (omega arith) e))
+    go false e = refl
+
+-- tests that agree below n have the same first index
+pub first-same : (t u : ℕ → Bool) (n : ℕ) → ((j : ℕ) → j < n → t j ≡ u j) → first t n ≡ first u n
+unfolding firstFrom
+first-same t u n same = from-same n 0 (λ j _ l. same j (omega arith))
+  where
+    from-same : (m k : ℕ) → ((j : ℕ) → k ≤ j → j < k + m → t j ≡ u j) → firstFrom t k m ≡ firstFrom u k m
+    from-same zero k same = refl
+    from-same (suc m) k same = rw (same k (omega arith) (omega arith), from-same m (suc k) (λ j a b. same j (omega arith) (omega arith)))
+
+-- the first index is not above n
+pub first-most : (t : ℕ → Bool) (n : ℕ) → first t n ≤ n
+unfolding firstFrom
+first-most t n = omega (arith, from-most n 0)
+  where
+    pick : (b : Bool) (m k : ℕ) → firstFrom t (suc k) m ≤ suc k + m → cond b k (firstFrom t (suc k) m) ≤ k + suc m
+    pick true m k h = omega (arith, add-suc k m)
+    pick false m k h = omega (arith, add-suc k m, h)
+
+    from-most : (m k : ℕ) → firstFrom t k m ≤ k + m
+    from-most zero k = omega arith
+    from-most (suc m) k = pick (t k) m k (from-most m (suc k))
+
+-- and the test fails below it
+pub first-under : (t : ℕ → Bool) (n j : ℕ) → j < first t n → t j ≡ false
+first-under t n j l = go (t j) refl
+  where
+    go : (b : Bool) → t j ≡ b → b ≡ false
+    go true e = absurd (omega (arith, from-le t n 0 j (omega arith) (omega (arith, first-most t n)) e))
+    go false e = refl

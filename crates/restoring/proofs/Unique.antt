@@ -1,0 +1,73 @@
+-- No second outcome fits: answers of which the same is told are the same. The table's refusals have the numbers 11 to 17, the
+-- reader's those up to 10. Assumes nothing.
+use Prim.Native.Nat.{ℕ, _≤_, _<_}
+use mathlib.Core.Path.{_≡_, sym, ap, _∙_}
+use mathlib.Core.List.{List}
+use native.Mathlib.Omega.{arith}
+use lib.ListN.{getD}
+use lib.IntN.{ℤ}
+use Rattle.told.specs.Told.{Told, refused}
+use Rattle.told.proofs.Unique.{given-not-refused, same-list, same-gift}
+use Rattle.tracker.specs.Refusal.{told}
+use Rattle.tracker.specs.declared.Refusal.{Refusal}
+use Rattle.tracker.specs.declared.Refusal.the-variants as tv
+use Rattle.tracker.proofs.Unique.{undone, refusalOf, refusal-back}
+use Rattle.array_reader.specs.Refusal.{numbers}
+use Rattle.array_reader.specs.declared.Refusal as dec
+use Rattle.array_reader.specs.declared.Refusal.the-variants as dv
+use Rattle.array_reader.proofs.Unique.{one-refusal}
+use Rattle.restoring.specs.Restore.{toldRestore, seqsAfter, secsAfter, Restores}
+use Rattle.restoring.specs.declared.Restored.{Restored}
+use Rattle.restoring.specs.declared.Restored.the-variants as rv
+
+-- a refusal's number
+abbrev number : List ℕ → ℕ
+number l = getD l 0 0
+
+table-number : (r : Refusal) → (11 ≤ number (told r)) × (number (told r) ≤ 17)
+table-number tv.Disagrees = omega arith
+table-number (tv.SequenceDrops i) = omega arith
+table-number (tv.SecondDrops i) = omega arith
+table-number (tv.SecondOutside i) = omega arith
+table-number tv.Settings = omega arith
+table-number tv.OfferedOutside = omega arith
+table-number tv.OfferedDrops = omega arith
+
+reader-number : (r : dec.Refusal) → number (numbers r) ≤ 10
+reader-number dv.Empty = omega arith
+reader-number (dv.Version b) = omega arith
+reader-number dv.Header = omega arith
+reader-number (dv.CountCut a) = omega arith
+reader-number (dv.TooMany a) = omega arith
+reader-number (dv.FirstCut a) = omega arith
+reader-number (dv.CodeEnd a i) = omega arith
+reader-number (dv.PrefixCut a i) = omega arith
+reader-number (dv.DiffCut a i w) = omega arith
+reader-number (dv.CountDiffers a) = omega arith
+
+-- refusals of two layers are two
+apart : {X : Type 0} {A : Type 0} (k l : List ℕ) → number k < number l → _≡_ {A = Told A} (refused k) (refused l) → X
+apart k l h e = let f : number k ≡ number l = ap number (same-list e) in absurd (omega arith)
+
+table-told : (a b : Refusal) → told a ≡ told b → a ≡ b
+table-told a b h = undone told refusalOf refusal-back a b h
+
+restore-told : (a b : Restored) → toldRestore a ≡ toldRestore b → a ≡ b
+restore-told (rv.Table t) (rv.Table u) h = ap rv.Table (same-gift h)
+restore-told (rv.Table t) (rv.Refused r) h = given-not-refused h
+restore-told (rv.Table t) (rv.NotDecoded r) h = given-not-refused h
+restore-told (rv.Refused r) (rv.Table u) h = given-not-refused (sym h)
+restore-told (rv.Refused r) (rv.Refused q) h = ap rv.Refused (table-told r q (same-list h))
+restore-told (rv.Refused r) (rv.NotDecoded q) h = apart (numbers q) (told r) (omega (arith, table-number r .0, reader-number q)) (sym h)
+restore-told (rv.NotDecoded r) (rv.Table u) h = given-not-refused (sym h)
+restore-told (rv.NotDecoded r) (rv.Refused q) h = apart (numbers r) (told q) (omega (arith, table-number q .0, reader-number r)) h
+restore-told (rv.NotDecoded r) (rv.NotDecoded q) h = ap rv.NotDecoded (one-refusal r q (same-list h))
+
+pub one-restore : (bytes seqs : List ℕ) (secs : List ℤ) (a b : Restored) (x x′ : List ℕ) (y y′ : List ℤ)
+    → Restores bytes seqs secs a x y → Restores bytes seqs secs b x′ y′ → (a ≡ b) × (x ≡ x′) × (y ≡ y′)
+one-restore bytes seqs secs a b x x′ y y′ f g =
+    let e : a ≡ b = restore-told a b (f .0 ∙ sym (g .0)) in (
+      e,
+      f .1 ∙ ap (λ (r : Restored). seqsAfter bytes (toldRestore r) seqs) e ∙ sym (g .1),
+      f .2 ∙ ap (λ (r : Restored). secsAfter bytes (toldRestore r) secs) e ∙ sym (g .2),
+    )

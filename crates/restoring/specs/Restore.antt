@@ -1,0 +1,52 @@
+-- Restore: what it tells, and what the lent arrays hold afterwards.
+use Prim.Native.Nat.{ℕ}
+use mathlib.Core.Path.{_≡_}
+use mathlib.Core.Bool.{cond, _||_}
+use mathlib.Core.List.{List, [], _∷_}
+use lib.Dec.{leb, ltb}
+use lib.ListN.{length}
+use lib.IntN.{ℤ}
+use Rattle.told.specs.Told.{Told, gave, refused}
+use Rattle.told.specs.Over.{filled}
+use Rattle.gorilla.specs.Parser.{Read, read}
+use Rattle.gorilla.specs.Parser as parser
+use Rattle.gorilla.specs.Reading.{Pairs, readImage, pairsRead}
+use Rattle.tracker.specs.Refusal.{told}
+use Rattle.tracker.specs.declared.SequenceTracker.{SequenceTracker}
+use Rattle.code_reader.specs.Refusal as reader
+use Rattle.settling.specs.Settle.{settledOf}
+use Rattle.restoring.specs.declared.Restored.{Restored}
+use Rattle.restoring.specs.declared.Restored.the-variants.{Table, Refused, NotDecoded}
+
+-- the table's state, or document 01's number
+abbrev pub toldRestore : Restored → Told SequenceTracker
+toldRestore (Table t) = gave t
+toldRestore (Refused r) = refused (told r)
+toldRestore (NotDecoded r) = refused (reader.told r)
+
+-- the list reader with room for 8,192 pairs
+abbrev pub readTable : List ℕ → Read Pairs
+readTable bytes = readImage (λ n. leb n 8192) bytes
+
+-- what was read, judged
+abbrev pub judged : Read Pairs → Told SequenceTracker
+judged (read p left) = settledOf (p .seqs) (p .secs) (length (p .seqs))
+judged (parser.refused what) = refused what
+
+-- 14 if an array is under 8,192, then the reader's refusals, then 11, 12, 13
+abbrev pub restoreOf : List ℕ → List ℕ → List ℤ → Told SequenceTracker
+restoreOf bytes seqs secs = cond (ltb (length seqs) 8192 || ltb (length secs) 8192) (refused (14 ∷ [])) (judged (readTable bytes))
+
+-- the lent arrays after what is told
+abbrev pub seqsAfter : List ℕ → Told SequenceTracker → List ℕ → List ℕ
+seqsAfter bytes what old = filled what (pairsRead (readTable bytes) .seqs) old
+
+abbrev pub secsAfter : List ℕ → Told SequenceTracker → List ℤ → List ℤ
+secsAfter bytes what old = filled what (pairsRead (readTable bytes) .secs) old
+
+-- `restore`: its answer, and both arrays afterwards
+abbrev pub Restores : List ℕ → List ℕ → List ℤ → Restored → List ℕ → List ℤ → Type 0
+Restores bytes seqs secs r seqs′ secs′ =
+    (toldRestore r ≡ restoreOf bytes seqs secs)
+    × (seqs′ ≡ seqsAfter bytes (toldRestore r) seqs)
+    × (secs′ ≡ secsAfter bytes (toldRestore r) secs)

@@ -1,0 +1,45 @@
+// A table restored from an image, at the default settings.
+ghost use mathlib.Core.Path.{_≡_};
+ghost use Rattle.tracker.specs.Refusal.{toldMade};
+ghost use Rattle.restoring.specs.Restore.{toldRestore, Restores};
+use decoder::Decoded;
+use tracker::Made;
+use tracker::Refusal;
+use tracker::SequenceTracker;
+
+// What a restore answers.
+pub enum Restored {
+    Table(SequenceTracker),
+    // the lent arrays or the pairs are refused
+    Refused(Refusal),
+    // the list reader refuses
+    NotDecoded(decoder::Refusal),
+}
+
+fn of_made(made: Made) -> Restored
+    ensures { λ r. ⌜ toldRestore r ≡ toldMade made ⌝ }
+{
+    match made {
+        Made::Table(table) => Restored::Table(table),
+        Made::Refused(why) => Restored::Refused(why),
+    }
+}
+
+// Rules 11 to 13 are judged before a lent place changes, so the pairs are read into arrays of the call's own: 128 KB of
+// stack, and a copy, which cost less than a second pass over the codes.
+pub fn restore(bytes: &[u8], seqs: &mut [u64], secs: &mut [i64]) -> Restored
+    ensures { λ r. ⌜ Restores (now (bytes .entry)) (now (seqs .entry)) (now (secs .entry)) r (now (seqs .exit)) (now (secs .exit)) ⌝ }
+{
+    if seqs.len() < 8192 {
+        return Restored::Refused(Refusal::Disagrees);
+    }
+    if secs.len() < 8192 {
+        return Restored::Refused(Refusal::Disagrees);
+    }
+    let mut own_seqs = [0u64; 8192];
+    let mut own_secs = [0i64; 8192];
+    match decoder::decode(bytes, &mut own_seqs, &mut own_secs) {
+        Decoded::Count(n) => { of_made(settling::settle(seqs, secs, &own_seqs, &own_secs, n)) }
+        Decoded::Refused(why) => Restored::NotDecoded(why),
+    }
+}

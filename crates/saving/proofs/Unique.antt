@@ -1,0 +1,69 @@
+-- No second outcome fits: answers of which the same is told are the same. The table's refusals have the numbers 11 to 17, the
+-- encoder's those from 18 on. Assumes nothing.
+use Prim.Native.Nat.{ℕ, _≤_, _<_}
+use mathlib.Core.Path.{_≡_, sym, ap, _∙_}
+use mathlib.Core.List.{List}
+use native.Mathlib.Omega.{arith}
+use lib.ListN.{getD}
+use lib.IntN.{ℤ}
+use Rattle.told.specs.Told.{Told, refused}
+use Rattle.told.proofs.Unique.{given-not-refused, same-list, same-gift}
+use Rattle.tracker.specs.Refusal.{told}
+use Rattle.tracker.specs.declared.SequenceTracker.{SequenceTracker}
+use Rattle.tracker.specs.declared.Refusal.{Refusal}
+use Rattle.tracker.specs.declared.Refusal.the-variants as tv
+use Rattle.tracker.proofs.Unique.{undone, refusalOf, refusal-back}
+use Rattle.encoder.specs.Encode as encoder
+use Rattle.encoder.specs.declared.Refusal as enc
+use Rattle.encoder.specs.declared.Refusal.the-variants as ev
+use Rattle.encoder.proofs.Unique.{refusal-told}
+use Rattle.saving.specs.Save.{toldSave, savedIn, Saves, SavesStrictly}
+use Rattle.saving.specs.declared.Saved.{Saved}
+use Rattle.saving.specs.declared.Saved.the-variants as sv
+
+-- a refusal's number
+abbrev number : List ℕ → ℕ
+number l = getD l 0 0
+
+table-number : (r : Refusal) → (11 ≤ number (told r)) × (number (told r) ≤ 17)
+table-number tv.Disagrees = omega arith
+table-number (tv.SequenceDrops i) = omega arith
+table-number (tv.SecondDrops i) = omega arith
+table-number (tv.SecondOutside i) = omega arith
+table-number tv.Settings = omega arith
+table-number tv.OfferedOutside = omega arith
+table-number tv.OfferedDrops = omega arith
+
+encoder-number : (r : enc.Refusal) → 18 ≤ number (encoder.told r)
+encoder-number ev.LengthsDiffer = omega arith
+encoder-number ev.TooMany = omega arith
+encoder-number (ev.Wide a i) = omega arith
+encoder-number (ev.Room n) = omega arith
+
+-- refusals of two layers are two
+apart : {X : Type 0} {A : Type 0} (k l : List ℕ) → number k < number l → _≡_ {A = Told A} (refused k) (refused l) → X
+apart k l h e = let f : number k ≡ number l = ap number (same-list e) in absurd (omega arith)
+
+table-told : (a b : Refusal) → told a ≡ told b → a ≡ b
+table-told a b h = undone told refusalOf refusal-back a b h
+
+save-told : (a b : Saved) → toldSave a ≡ toldSave b → a ≡ b
+save-told (sv.Written n) (sv.Written m) h = ap sv.Written (same-gift h)
+save-told (sv.Written n) (sv.Refused r) h = given-not-refused h
+save-told (sv.Written n) (sv.NotEncoded r) h = given-not-refused h
+save-told (sv.Refused r) (sv.Written m) h = given-not-refused (sym h)
+save-told (sv.Refused r) (sv.Refused q) h = ap sv.Refused (table-told r q (same-list h))
+save-told (sv.Refused r) (sv.NotEncoded q) h = apart (told r) (encoder.told q) (omega (arith, table-number r .1, encoder-number q)) h
+save-told (sv.NotEncoded r) (sv.Written m) h = given-not-refused (sym h)
+save-told (sv.NotEncoded r) (sv.Refused q) h = apart (told q) (encoder.told r) (omega (arith, table-number q .1, encoder-number r)) (sym h)
+save-told (sv.NotEncoded r) (sv.NotEncoded q) h = ap sv.NotEncoded (refusal-told r q (same-list h))
+
+module _ (table : SequenceTracker) (seqs : List ℕ) (secs : List ℤ) (out : List ℕ) where
+  same-buffer : (a b : Saved) (x y : List ℕ) → a ≡ b → x ≡ savedIn table seqs secs (toldSave a) out → y ≡ savedIn table seqs secs (toldSave b) out → x ≡ y
+  same-buffer a b x y e f g = f ∙ ap (λ (s : Saved). savedIn table seqs secs (toldSave s) out) e ∙ sym g
+
+  pub one-save : (a b : Saved) (x y : List ℕ) → Saves table seqs secs out a x → Saves table seqs secs out b y → (a ≡ b) × (x ≡ y)
+  one-save a b x y f g = let e = save-told a b (f .0 ∙ sym (g .0)) in (e, same-buffer a b x y e (f .1) (g .1))
+
+  pub one-save-strict : (a b : Saved) (x y : List ℕ) → SavesStrictly table seqs secs out a x → SavesStrictly table seqs secs out b y → (a ≡ b) × (x ≡ y)
+  one-save-strict a b x y f g = let e = save-told a b (f .0 ∙ sym (g .0)) in (e, same-buffer a b x y e (f .1) (g .1))

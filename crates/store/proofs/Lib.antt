@@ -1,3 +1,0 @@
-pub mod Copy
-pub mod Loading
-pub mod Unique

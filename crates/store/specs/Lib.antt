@@ -1,2 +1,0 @@
-pub mod Save
-pub mod Restore
