@@ -8,7 +8,7 @@ ghost use Rattle.encoder.specs.Encode as encoding;
 ghost use Rattle.decoder.specs.Decode as decoding;
 ghost use Rattle.tracker.specs.Refusal.{toldCheck};
 ghost use Rattle.lookup.specs.Found.{toldTs, toldSeq};
-ghost use Rattle.store.specs.Save.{toldSave};
+ghost use Rattle.saving.specs.Save.{toldSave};
 ghost use Rattle.answers.specs.Answer.{ofCount, ofSigned, ofPiece, ofPlace, ofCheck, ofTs, ofSeq};
 use answers::Answer;
 use answers::inner as refusals;
@@ -23,7 +23,7 @@ use lookup::FoundSeq;
 use lookup::FoundTs;
 use signed::Extended;
 use signed::as_unsigned;
-use store::Saved;
+use saving::Saved;
 use tracker::Checked;
 
 pub fn of_read(read: BitsRead) -> Answer

@@ -12,10 +12,10 @@ use Rattle.tracker.specs.Refusal.{told}
 use Rattle.tracker.specs.declared.Refusal.{Refusal}
 use Rattle.tracker.specs.declared.Refusal.the-variants as tv
 use Rattle.tracker.proofs.Unique.{undone, refusalOf, refusal-back}
-use Rattle.array_reader.specs.Refusal.{numbers}
-use Rattle.array_reader.specs.declared.Refusal as dec
-use Rattle.array_reader.specs.declared.Refusal.the-variants as dv
-use Rattle.array_reader.proofs.Unique.{one-refusal}
+use Rattle.code_reader.specs.Refusal as reader
+use Rattle.code_reader.specs.declared.Refusal as dec
+use Rattle.code_reader.specs.declared.Refusal.the-variants as dv
+use Rattle.code_reader.proofs.Unique.{one-refusal}
 use Rattle.restoring.specs.Restore.{toldRestore, seqsAfter, secsAfter, Restores}
 use Rattle.restoring.specs.declared.Restored.{Restored}
 use Rattle.restoring.specs.declared.Restored.the-variants as rv
@@ -33,7 +33,7 @@ table-number tv.Settings = omega arith
 table-number tv.OfferedOutside = omega arith
 table-number tv.OfferedDrops = omega arith
 
-reader-number : (r : dec.Refusal) → number (numbers r) ≤ 10
+reader-number : (r : dec.Refusal) → number (reader.told r) ≤ 10
 reader-number dv.Empty = omega arith
 reader-number (dv.Version b) = omega arith
 reader-number dv.Header = omega arith
@@ -58,9 +58,9 @@ restore-told (rv.Table t) (rv.Refused r) h = given-not-refused h
 restore-told (rv.Table t) (rv.NotDecoded r) h = given-not-refused h
 restore-told (rv.Refused r) (rv.Table u) h = given-not-refused (sym h)
 restore-told (rv.Refused r) (rv.Refused q) h = ap rv.Refused (table-told r q (same-list h))
-restore-told (rv.Refused r) (rv.NotDecoded q) h = apart (numbers q) (told r) (omega (arith, table-number r .0, reader-number q)) (sym h)
+restore-told (rv.Refused r) (rv.NotDecoded q) h = apart (reader.told q) (told r) (omega (arith, table-number r .0, reader-number q)) (sym h)
 restore-told (rv.NotDecoded r) (rv.Table u) h = given-not-refused (sym h)
-restore-told (rv.NotDecoded r) (rv.Refused q) h = apart (numbers r) (told q) (omega (arith, table-number q .0, reader-number r)) h
+restore-told (rv.NotDecoded r) (rv.Refused q) h = apart (reader.told r) (told q) (omega (arith, table-number q .0, reader-number r)) h
 restore-told (rv.NotDecoded r) (rv.NotDecoded q) h = ap rv.NotDecoded (one-refusal r q (same-list h))
 
 pub one-restore : (bytes seqs : List ℕ) (secs : List ℤ) (a b : Restored) (x x′ : List ℕ) (y y′ : List ℤ)

@@ -10,8 +10,8 @@ use Rattle.offers.specs.Whole.{Table, whole, Left, Leaves}
 use Rattle.offers.specs.Offer.{offering}
 use Rattle.log.specs.Pairs.{pairsLogOf, extendOf}
 use Rattle.encoder.specs.Encode.{encodedIn}
-use Rattle.store.specs.Save.{savedIn}
-use Rattle.store.specs.Restore.{restoreOf, seqsAfter, secsAfter}
+use Rattle.saving.specs.Save.{savedIn}
+use Rattle.restoring.specs.Restore.{restoreOf, seqsAfter, secsAfter}
 use Rattle.answers.specs.Answer.{ofCount}
 use Rattle.answers.specs.declared.Answer.{Answer}
 use Rattle.states.specs.State.{tableOf}

@@ -1,5 +1,5 @@
 // A table saved as an image, and restored from one.
-ghost use Rattle.store.specs.Save.{saveOf, saveStrictOf};
+ghost use Rattle.saving.specs.Save.{saveOf, saveStrictOf};
 ghost use Rattle.skutlaneb.specs.Calls.{Saves, Restores};
 use answers::Answer;
 use call_answers as calls;
@@ -13,7 +13,7 @@ pub extern "C" fn skut_save(state: State, seqs: &[u64], secs: &[i64], out: &mut 
     ensures { λ r. ⌜ Saves saveOf state (now (seqs .entry)) (now (secs .entry)) (now (out .entry)) r (now (out .exit)) ⌝ }
 {
     let table = states::table_of(state);
-    calls::of_saved(store::save(table, seqs, secs, out))
+    calls::of_saved(saving::save(table, seqs, secs, out))
 }
 
 // Gives the bytes written.
@@ -27,7 +27,7 @@ pub extern "C" fn skut_save_strict(
     ensures { λ r. ⌜ Saves saveStrictOf state (now (seqs .entry)) (now (secs .entry)) (now (out .entry)) r (now (out .exit)) ⌝ }
 {
     let table = states::table_of(state);
-    calls::of_saved(store::save_strict(table, seqs, secs, out))
+    calls::of_saved(saving::save_strict(table, seqs, secs, out))
 }
 
 // Needs 130 KB of stack: two arrays of 8,192 are its own.
@@ -35,5 +35,5 @@ pub extern "C" fn skut_save_strict(
 pub extern "C" fn skut_restore(bytes: &[u8], seqs: &mut [u64], secs: &mut [i64]) -> TableAnswer
     ensures { λ r. ⌜ Restores (now (bytes .entry)) (now (seqs .entry)) (now (secs .entry)) r (now (seqs .exit)) (now (secs .exit)) ⌝ }
 {
-    tables::of_restored(store::restore(bytes, seqs, secs))
+    tables::of_restored(restoring::restore(bytes, seqs, secs))
 }

@@ -14,7 +14,7 @@ use Rattle.offers.specs.Whole.{Table, whole, checkIn}
 use Rattle.offers.specs.Offer.{offerTo}
 use Rattle.log.specs.Log.{ownTable, otherTable}
 use Rattle.log.specs.Pairs.{pairsLogOf, extendOf}
-use Rattle.store.specs.Save.{saveOf, saveStrictOf}
+use Rattle.saving.specs.Save.{saveOf, saveStrictOf}
 use Rattle.states.specs.State.{tableOf, stateOf, noState}
 use Rattle.states.specs.declared.State.{State}
 

@@ -3,7 +3,7 @@ ghost use mathlib.Core.Path.{_≡_};
 ghost use Rattle.tracker.specs.Refusal.{toldMade};
 ghost use Rattle.offers.specs.Offer.{toldOffer};
 ghost use Rattle.log.specs.Log.{toldLog};
-ghost use Rattle.store.specs.Restore.{toldRestore};
+ghost use Rattle.restoring.specs.Restore.{toldRestore};
 ghost use Rattle.table_answers.specs.Table.{ofTable, ofOffer, ofLog};
 use crate::TableAnswer;
 use crate::refusals;
@@ -12,7 +12,7 @@ use answers::inner::answer;
 use log::Logged;
 use log::Tally;
 use offers::Offered;
-use store::Restored;
+use restoring::Restored;
 use tracker::Made;
 use tracker::SequenceTracker;
 

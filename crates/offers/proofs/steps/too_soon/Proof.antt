@@ -8,7 +8,7 @@ use Prim.Native.Nat.{_^_}
 use borrow.Author.Tests.{lt-ltb}
 use lib.IntN.{pos}
 use Rattle.signed.specs.Signed.{signed}
-use Rattle.tracker.specs.Domain.{outside}
+use Rattle.limits.specs.Domain.{outside}
 use Rattle.tracker.specs.Table.{lastOutside}
 use Rattle.offers.proofs.Difference.{diff-fits}
 use Rattle.offers.proofs.steps.too_soon.Statement.{statement}
