@@ -43,7 +43,7 @@ unfolding arrayBits
 bits-array xs = bits-append _ _ (bits-natBits 32 (length xs)) (bits-values xs)
 
 -- ---- one array of an image
-bitsOf-append : (a b : List ℕ) → bitsOf (a ++ b) ≡ bitsOf a ++ bitsOf b
+pub bitsOf-append : (a b : List ℕ) → bitsOf (a ++ b) ≡ bitsOf a ++ bitsOf b
 unfolding bitsOf
 bitsOf-append [] b = refl
 bitsOf-append (x ∷ a) b = rw (append-assoc) (ap (λ (ys : List ℕ). natBits 8 x ++ ys) (bitsOf-append a b))
