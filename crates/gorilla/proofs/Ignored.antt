@@ -36,15 +36,17 @@ module _ (May : List ℕ → List ℕ → Type 0) (grow : (u x y : List ℕ) →
   give-takes x = record { takes = λ bs left r h. record { used = []; front = cc; same = λ y m. cc } }
 
   then-takes : {A B : Type 0} {m : Reader A} {f : A → Reader B} → Takes May m → ((x : A) → Takes May (f x)) → Takes May (_>>=_ m f)
-  then-takes {A} {B} {m} {f} M F = record { takes = λ bs left r h.
-      let b = both (m bs) f h in
-      let one = M .takes bs (b .between) (b .value) (b .first) in
-      let two = F (b .value) .takes (b .between) left r (b .second) in
-      record {
-        used = one .used ++ two .used;
-        front = one .front ∙ ap (λ (l : List ℕ). one .used ++ l) (two .front) ∙ sym (append-assoc (one .used) (two .used) left);
-        same = λ x a. rw (append-assoc (one .used) (two .used) x, one .same (two .used ++ x) (subst (May (two .used ++ x)) (sym (two .front)) (grow (two .used) x left a))) (two .same x a);
-      } }
+  then-takes {A} {B} {m} {f} M F = record {
+    takes = λ bs left r h.
+        let b = both (m bs) f h in
+        let one = M .takes bs (b .between) (b .value) (b .first) in
+        let two = F (b .value) .takes (b .between) left r (b .second) in
+        record {
+          used = one .used ++ two .used;
+          front = one .front ∙ ap (λ (l : List ℕ). one .used ++ l) (two .front) ∙ sym (append-assoc (one .used) (two .used) left);
+          same = λ x a. rw (append-assoc (one .used) (two .used) x, one .same (two .used ++ x) (subst (May (two .used ++ x)) (sym (two .front)) (grow (two .used) x left a))) (two .same x a);
+        };
+  }
 
   require-takes : (b : Bool) (l : List ℕ) → Takes May (require b l)
   require-takes true l = give-takes tt
@@ -114,16 +116,18 @@ align-leaves bs = omega (arith, length-drop (length bs % 8) bs)
 
 align-takes : Takes Whole align
 unfolding Whole
-align-takes = record { takes = λ bs left r h.
-    let n : ℕ = length bs % 8 in
-    let e : drop n bs ≡ left = cc in
-    let k : length left % 8 ≡ 0 = rw (← e) (align-leaves bs) in
-    let t : length (take n bs) ≡ n = length-take-le n bs (omega arith) in
-    record {
-      used = take n bs;
-      front = sym (take-append-drop n bs) ∙ ap (λ (l : List ℕ). take n bs ++ l) e;
-      same = λ x a. padding-passed (take n bs) x (omega arith) (a ∙ k);
-    } }
+align-takes = record {
+  takes = λ bs left r h.
+      let n : ℕ = length bs % 8 in
+      let e : drop n bs ≡ left = cc in
+      let k : length left % 8 ≡ 0 = rw (← e) (align-leaves bs) in
+      let t : length (take n bs) ≡ n = length-take-le n bs (omega arith) in
+      record {
+        used = take n bs;
+        front = sym (take-append-drop n bs) ∙ ap (λ (l : List ℕ). take n bs ++ l) e;
+        same = λ x a. padding-passed (take n bs) x (omega arith) (a ∙ k);
+      };
+}
 
 part-takes : (a : ℕ) (room : ℕ → Bool) (n : ℕ) → Takes Whole (readPart a room n)
 unfolding readPart
@@ -258,7 +262,7 @@ padded room bs left p s =
     let b = part-of 1 room (s .count) (s .after-seqs) left (p .secs) (s .secs-read) in
     let laid : (x y : List ℕ) → v .used ++ c .used ++ a .bits ++ x ++ b .bits ++ y ++ left ≡ v .used ++ (c .used ++ (a .bits ++ x ++ (b .bits ++ y ++ left))) = λ x y. simp append-assoc in
     let whole : (y : List ℕ) → length y ≡ length (b .padding) → length (b .bits ++ y ++ left) % 8 ≡ 0 = λ y e.
-        omega (arith, a .bytes, ap length (b .parts), length-append (b .bits ++ y) left, length-append (b .bits) y, length-append (b .bits ++ b .padding) left, length-append (b .bits) (b .padding)) in
+    omega (arith, a .bytes, ap length (b .parts), length-append (b .bits ++ y) left, length-append (b .bits) y, length-append (b .bits ++ b .padding) left, length-append (b .bits) (b .padding)) in
     record {
       header = v .used ++ c .used;
       seqs = a .bits;
@@ -266,8 +270,16 @@ padded room bs left p s =
       secs = b .bits;
       secs-padding = b .padding;
       parts = v .front ∙ ap (λ (l : List ℕ). v .used ++ l) (c .front ∙ ap (λ (l : List ℕ). c .used ++ l) (a .parts ∙ ap (λ (l : List ℕ). a .bits ++ a .padding ++ l) (b .parts))) ∙ sym (laid (a .padding) (b .padding));
-      five = omega (arith, ap length (v .front), ap length (c .front), length-append (v .used) (s .after-version), length-append (c .used) (s .after-header), length-append (v .used) (c .used),
-        off-length (1 ∷ []) 8 0 bs (s .after-version) 1 (s .version-read), count-length (3 ∷ []) (s .after-version) (s .after-header) (s .count) (s .count-read));
+      five = omega (
+        arith,
+        ap length (v .front),
+        ap length (c .front),
+        length-append (v .used) (s .after-version),
+        length-append (c .used) (s .after-header),
+        length-append (v .used) (c .used),
+        off-length (1 ∷ []) 8 0 bs (s .after-version) 1 (s .version-read),
+        count-length (3 ∷ []) (s .after-version) (s .after-header) (s .count) (s .count-read),
+      );
       values = s .values;
       patterns = s .patterns;
       seqs-read = a .whole;

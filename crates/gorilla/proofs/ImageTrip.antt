@@ -58,7 +58,7 @@ unfolding sentAfter
 length-sent p e [] = refl
 length-sent p e (x ∷ xs) = ap suc (length-sent x (subS x p) xs)
 
-length-received : (xs : List ℤ) → length (received xs) ≡ length xs
+pub length-received : (xs : List ℤ) → length (received xs) ≡ length xs
 unfolding received
 length-received [] = refl
 length-received (x ∷ xs) = ap suc (length-after x (pos 0) (sentAfter x (pos 0) xs) ∙ length-sent x (pos 0) xs)
