@@ -12,7 +12,7 @@ use Rattle.offers.specs.Offer.{Outcome}
 use Rattle.theorems.specs.Run.{Table, new, Event, offered, reloaded, step, ranTo, answers, offersIn, Proper, Unharmed, Demand}
 use Rattle.theorems.proofs.Sound.{Sound, Same, offered-sound, offered-told, offered-same, new-sound, same-self, same-trans}
 use Rattle.theorems.proofs.Reload.{restores, reload-sound, reload-same}
-use Rattle.theorems.proofs.Exact.{refuses, writes}
+use Rattle.theorems.proofs.Exact.{exactly, writes}
 
 -- what a run keeps up, of the table w that it has led to and the table v of the offers alone
 record Kept (w v : Table) : Type 0 where
@@ -55,10 +55,10 @@ unharmed w v K =
       state = M .state;
       by-seq = λ x opt. rw (← M .state) (kept-ts (w .state) (w .seqs) (v .seqs) (w .secs) (v .secs) x opt k);
       by-second = λ x opt. rw (← M .state) (kept-seq (w .state) (w .seqs) (v .seqs) (w .secs) (v .secs) x opt k);
+      by-strict = λ out. rw (← M .state) (rw (K .sound .good, there, a .same-seqs, a .same-secs) (refl, refl));
       by-save = λ out. rw (← M .state) (rw (K .sound .good, there, a .same-seqs, a .same-secs) (refl, refl));
       restores = λ l n h e. restores w (K .sound) l n e h;
-      refuses = λ l room lent. refuses w (K .sound) l lent room;
-      writes = λ l room lent. writes w (K .sound) l lent room;
+      exact = λ l room lent. let e = exactly w (K .sound) l lent room in (e .0, e .1, writes w (K .sound) l lent room);
     }
 
 pub demand : Demand

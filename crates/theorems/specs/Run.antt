@@ -18,9 +18,8 @@ use Rattle.tracker.specs.declared.SequenceTracker.{SequenceTracker}
 use Rattle.lookup.specs.Find.{findTs, findSeq}
 use Rattle.lookup.specs.declared.FindOption.{FindOption}
 use Rattle.offers.specs.Offer.{Outcome, offerOf, after, stateAfter}
-use Rattle.encoder.specs.Encode.{encodeRule, encodedIn}
 use Rattle.decoder.specs.Decode.{listed}
-use Rattle.store.specs.Save.{saveStrictOf, savedIn}
+use Rattle.store.specs.Save.{saveStrictOf, saveOf, savedIn}
 use Rattle.store.specs.Restore.{restoreOf, seqsAfter, secsAfter}
 
 -- a table: its state and its two lent arrays, whole
@@ -60,41 +59,36 @@ pub record Reload : Type 0 where
   pub seqs : List ℕ
   pub secs : List ℤ
 
+-- what `save_strict` tells, and what `save`, which is the Rust's, tells
+abbrev pub strictTo : Table → List ℕ → Told ℕ
+strictTo w out = saveStrictOf (w .state) (w .seqs) (w .secs) (length out)
+
+abbrev pub saveTo : Table → List ℕ → Told ℕ
+saveTo w out = saveOf (w .state) (w .seqs) (w .secs) (length out)
+
+-- the buffer after a save that tells this
+abbrev pub savedTo : Table → Told ℕ → List ℕ → List ℕ
+savedTo w told out = savedIn (w .state) (w .seqs) (w .secs) told out
+
 -- the bytes written to a buffer: as many as are told
 abbrev pub written : Told ℕ → List ℕ → List ℕ
 written (gave n) out = take n out
 written (refused what) out = []
 
--- what `save_strict` tells
-abbrev pub saveTo : Table → List ℕ → Told ℕ
-saveTo w out = saveStrictOf (w .state) (w .seqs) (w .secs) (length out)
+-- the bytes that such a save writes, and others after them
+abbrev pub stored : (Table → List ℕ → Told ℕ) → Table → Reload → List ℕ
+stored save w l = written (save w (l .out)) (savedTo w (save w (l .out)) (l .out)) ++ l .following
 
--- the buffer after it
-abbrev pub savedTo : Table → List ℕ → List ℕ
-savedTo w out = savedIn (w .state) (w .seqs) (w .secs) (saveTo w out) out
-
--- the bytes that restore is given: those that the save wrote, and others after them
-abbrev pub stored : Table → Reload → List ℕ
-stored w l = written (saveTo w (l .out)) (savedTo w (l .out)) ++ l .following
-
--- what `restore` tells of them
+-- what `restore` tells of what a strict save wrote
 abbrev pub restoreTo : Table → Reload → Told SequenceTracker
-restoreTo w l = restoreOf (stored w l) (l .seqs) (l .secs)
+restoreTo w l = restoreOf (stored strictTo w l) (l .seqs) (l .secs)
 
--- a refused restore leaves no table: one without room, on which each call is refused with 14
-abbrev pub lost : Table
-lost = new [] []
-
--- the table after a restore that tells this
+-- the table after a restore that tells this; a refused one leaves none, and a new one is begun
 abbrev pub restoredTo : Table → Reload → Told SequenceTracker → Table
-restoredTo w l (gave t) = record {
-  state = t;
-  seqs = seqsAfter (stored w l) (gave t) (l .seqs);
-  secs = secsAfter (stored w l) (gave t) (l .secs);
-}
-restoredTo w l (refused what) = lost
+restoredTo w l (gave t) = record { state = t; seqs = seqsAfter (stored strictTo w l) (gave t) (l .seqs); secs = secsAfter (stored strictTo w l) (gave t) (l .secs) }
+restoredTo w l (refused what) = new (l .seqs) (l .secs)
 
--- the table after a save that tells this, and a restore; a refused save leaves the table standing
+-- the table after a strict save that tells this, and a restore; a refused save leaves the table standing
 abbrev pub reloadedTo : Table → Reload → Told ℕ → Table
 reloadedTo w l (gave n) = restoredTo w l (restoreTo w l)
 reloadedTo w l (refused what) = w
@@ -108,7 +102,7 @@ pub data Event : Type 0 where
 -- the table after an event
 unfoldable pub step : Table → Event → Table
 step w (offered seq ts) = offeredTo w seq ts (offerTo w seq ts)
-step w (reloaded l) = reloadedTo w l (saveTo w (l .out))
+step w (reloaded l) = reloadedTo w l (strictTo w (l .out))
 
 -- the table after the events
 unfoldable pub ranTo : Table → List Event → Table
@@ -139,7 +133,10 @@ Proper (reloaded l ∷ es) = Lent (l .seqs) (l .secs) × Proper es
 
 -- ---- when a strict save is refused
 
--- refused with this number
+-- refused, with any number; and with this one
+abbrev pub Refused : Told ℕ → Type 0
+Refused told = (what : List ℕ) × (told ≡ refused what)
+
 abbrev pub RefusedWith : ℕ → Told ℕ → Type 0
 RefusedWith number told = (more : List ℕ) × (told ≡ refused (number ∷ more))
 
@@ -147,13 +144,9 @@ RefusedWith number told = (more : List ℕ) × (told ≡ refused (number ∷ mor
 abbrev pub imageFor : Table → List ℕ
 imageFor w = imageBytes (keptIn w .seqs) (keptIn w .secs)
 
--- what `encode`, which is the Rust's, tells of the kept pairs and a buffer
-abbrev pub encodeTo : Table → List ℕ → Told ℕ
-encodeTo w out = encodeRule (keptIn w .seqs) (keptIn w .secs) (length out)
-
--- what the list reader reads of the bytes that `encode` writes to the buffer, with others after them
+-- what the list reader reads of what the Rust's save wrote
 abbrev pub readBack : Table → Reload → Read Pairs
-readBack w l = listed (written (encodeTo w (l .out)) (encodedIn (keptIn w .seqs) (keptIn w .secs) (encodeTo w (l .out)) (l .out)) ++ l .following) (l .seqs) (l .secs)
+readBack w l = listed (stored saveTo w l) (l .seqs) (l .secs)
 
 -- other pairs than those that the table keeps
 abbrev pub ReadsOthers : Table → Reload → Type 0
@@ -171,17 +164,18 @@ pub record Unharmed (w v : Table) : Type 0 where
   -- each lookup
   pub by-seq : (x : Seq) (opt : FindOption) → findTs (w .state) (w .seqs) (w .secs) x opt ≡ findTs (v .state) (v .seqs) (v .secs) x opt
   pub by-second : (x : Second) (opt : FindOption) → findSeq (w .state) (w .seqs) (w .secs) x opt ≡ findSeq (v .state) (v .seqs) (v .secs) x opt
-  -- each strict save, and the buffer after it
-  pub by-save : (out : List ℕ) → (saveTo w out ≡ saveTo v out) × (savedTo w out ≡ savedTo v out)
+  -- each save, strict or not, and the buffer after it
+  pub by-strict : (out : List ℕ) → (strictTo w out ≡ strictTo v out) × (savedTo w (strictTo w out) out ≡ savedTo v (strictTo v out) out)
+  pub by-save : (out : List ℕ) → (saveTo w out ≡ saveTo v out) × (savedTo w (saveTo w out) out ≡ savedTo v (saveTo v out) out)
   -- restore never refuses what a strict save wrote: it gives back the state and the pairs
-  pub restores : (l : Reload) (n : ℕ) → Lent (l .seqs) (l .secs) → saveTo w (l .out) ≡ gave n
+  pub restores : (l : Reload) (n : ℕ) → Lent (l .seqs) (l .secs) → strictTo w (l .out) ≡ gave n
       → (restoreTo w l ≡ gave (w .state)) × (keptIn (restoredTo w l (restoreTo w l)) ≡ keptIn w)
-  -- with room for the image a strict save is refused with 20 exactly where the bytes that `encode` writes read back as other pairs
-  pub refuses : (l : Reload) → length (imageFor w) ≤ length (l .out) → Lent (l .seqs) (l .secs)
-      → RefusedWith 20 (saveTo w (l .out)) ↔ ReadsOthers w l
-  -- and it writes the image exactly where they read back as the kept ones
-  pub writes : (l : Reload) → length (imageFor w) ≤ length (l .out) → Lent (l .seqs) (l .secs)
-      → (saveTo w (l .out) ≡ gave (length (imageFor w))) ↔ (readBack w l ≡ read (keptIn w) (bitsOf (l .following)))
+  -- with room for the image a strict save is refused at all exactly where what the Rust's save wrote reads back as other pairs, and then
+  -- with 20; and it writes the image exactly where that reads back as the kept ones
+  pub exact : (l : Reload) → length (imageFor w) ≤ length (l .out) → Lent (l .seqs) (l .secs)
+      → (Refused (strictTo w (l .out)) ↔ ReadsOthers w l)
+      × (Refused (strictTo w (l .out)) → RefusedWith 20 (strictTo w (l .out)))
+      × ((strictTo w (l .out) ≡ gave (length (imageFor w))) ↔ (readBack w l ≡ read (keptIn w) (bitsOf (l .following))))
 
 -- from a new table in any two such arrays, by any events: each offer is told what it is told without the saves and restores, and the table is unharmed
 abbrev pub Demand : Type 0
