@@ -1,6 +1,6 @@
 // The answers of the public calls as structs of numbers, for programs in other languages: document 01's number, and what the
 // call gives or the refusal also tells. Answers that give a table stand in the crate `table_answers`, the exported calls in
-// `exports`.
+// `skutlaneb`.
 mod calls; // calls.rt: each call's answer
 pub mod inner; // inner.rt: what our own crates call
 mod refusals; // refusals.rt: a refusal

@@ -4,6 +4,3 @@ pub mod Preserved
 pub mod Unique
 mod Moved
 mod Records
-mod Again
-mod Both
-mod Calls

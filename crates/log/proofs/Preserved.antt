@@ -13,25 +13,28 @@ use Rattle.tracker.specs.Table.{checkOf}
 use Rattle.tracker.specs.declared.TrackedSeq.{TrackedSeq}
 use Rattle.tracker.specs.declared.SequenceTracker.{SequenceTracker}
 use Rattle.tracker.proofs.Bools.{not-given}
-use Rattle.offers.specs.Offer.{Outcome, recorded, skipped, tooSoon, lowSeq}
+use Rattle.offers.specs.Whole.{Table, checkIn, Left}
+use Rattle.offers.specs.Offer.{Outcome, recorded, skipped, tooSoon, lowSeq, offeredTo}
 use Rattle.offers.proofs.Preserved.{stays-good}
-use Rattle.log.specs.Log.{Log, done, stopped, Left, Standing, offered, standAfter, unlessRefused, runOf}
+use Rattle.log.specs.Log.{Log, done, stopped, counted, tells, afterRecord, unlessRefused, runOf}
+use Rattle.log.specs.Inner.{total}
+use Rattle.log.specs.declared.Tally.{Tally}
 
 -- the table that a log tells
 abbrev pub stateIn : Told Log → SequenceTracker → SequenceTracker
-stateIn (gave (done t n k)) table = t
-stateIn (gave (stopped what t n k)) table = t
+stateIn (gave (done t n)) table = t
+stateIn (gave (stopped what t n)) table = t
 stateIn (refused what) table = table
 
-abbrev pub GoodLeft : SequenceTracker → Left → Type 0
+abbrev pub GoodLeft : SequenceTracker → Left (Told Log) → Type 0
 GoodLeft table l = checkOf (stateIn (l .answer) table) (l .seqs) (l .secs) ≡ gave tt
 
-pub run-good : (table : SequenceTracker) (s : Standing) (i : ℕ) (rs : List TrackedSeq) → checkOf (s .table) (s .seqs) (s .secs) ≡ gave tt → GoodLeft table (runOf s i rs)
+pub run-good : (table : SequenceTracker) (w : Table) (n : Tally) (i : ℕ) (rs : List TrackedSeq) → checkIn w ≡ gave tt → GoodLeft table (runOf w n i rs)
 unfolding runOf
-run-good table s i [] g = g
-run-good table s i (r ∷ rs) g = go (offered s r) (runOf (standAfter (offered s r) s r) (i + 1) rs) (run-good table (standAfter (offered s r) s r) (i + 1) rs (stays-good (s .table) (s .seqs) (s .secs) (r .seq) (r .ts) (offered s r) refl g))
+run-good table w n i [] g = g
+run-good table w n i (r ∷ rs) g = go (tells w r) (runOf (afterRecord w r) (counted (tells w r) n) (i + 1) rs) (run-good table (afterRecord w r) (counted (tells w r) n) (i + 1) rs (stays-good (w .state) (w .seqs) (w .secs) (r .seq) (r .ts) (tells w r) refl g))
   where
-    go : (o : Told Outcome) (l : Left) → GoodLeft table l → GoodLeft table (unlessRefused o i s l)
+    go : (o : Told Outcome) (l : Left (Told Log)) → GoodLeft table l → GoodLeft table (unlessRefused o i w n l)
     go (gave o) l h = h
     go (refused what) l h = g
 
@@ -44,21 +47,21 @@ last-is l n = let e : length (l ++ (n ∷ [])) - 1 ≡ length l = omega (arith, 
 
 -- of m records all were recorded or skipped, or those before the refused position were
 abbrev pub Counted : ℕ → Told Log → Type 0
-Counted m (gave (done t n k)) = n + k ≡ m
-Counted m (gave (stopped what t n k)) = (lastOf what ≡ n + k) × (n + k < m)
+Counted m (gave (done t n)) = total n ≡ m
+Counted m (gave (stopped what t n)) = (lastOf what ≡ total n) × (total n < m)
 Counted m (refused what) = ⊥
 
-pub run-counted : (s : Standing) (i : ℕ) (rs : List TrackedSeq) → s .recorded + s .skipped ≡ i → Counted (i + length rs) (runOf s i rs .answer)
+pub run-counted : (w : Table) (n : Tally) (i : ℕ) (rs : List TrackedSeq) → total n ≡ i → Counted (i + length rs) (runOf w n i rs .answer)
 unfolding runOf
-run-counted s i [] h = omega (arith, h)
-run-counted s i (r ∷ rs) h = go (offered s r) (λ (o : Outcome). run-counted (standAfter (gave o) s r) (i + 1) rs (one-more o))
+run-counted w n i [] h = omega (arith, h)
+run-counted w n i (r ∷ rs) h = go (tells w r) (λ (o : Outcome). run-counted (offeredTo w (r .seq) (r .ts) (gave o)) (counted (gave o) n) (i + 1) rs (one-more o))
   where
-    one-more : (o : Outcome) → standAfter (gave o) s r .recorded + standAfter (gave o) s r .skipped ≡ i + 1
+    one-more : (o : Outcome) → total (counted (gave o) n) ≡ i + 1
     one-more (recorded t) = omega (arith, h)
     one-more skipped = omega (arith, h)
 
-    go : (o : Told Outcome) → ((o : Outcome) → Counted (i + 1 + length rs) (runOf (standAfter (gave o) s r) (i + 1) rs .answer))
-        → Counted (i + suc (length rs)) (unlessRefused o i s (runOf (standAfter o s r) (i + 1) rs) .answer)
+    go : (o : Told Outcome) → ((o : Outcome) → Counted (i + 1 + length rs) (runOf (offeredTo w (r .seq) (r .ts) (gave o)) (counted (gave o) n) (i + 1) rs .answer))
+        → Counted (i + suc (length rs)) (unlessRefused o i w n (runOf (offeredTo w (r .seq) (r .ts) o) (counted o n) (i + 1) rs) .answer)
     go (gave o) k = let e : i + suc (length rs) ≡ i + 1 + length rs = omega arith in rw e (k o)
     go (refused what) k = (last-is what i ∙ sym h, omega (arith, h))
 
@@ -67,13 +70,13 @@ abbrev pub Number : List ℕ → Type 0
 Number what = (getD what 0 0 ≡ 16) ⊎ (getD what 0 0 ≡ 17)
 
 abbrev pub Stops : Told Log → Type 0
-Stops (gave (done t n k)) = Unit {0}
-Stops (gave (stopped what t n k)) = Number what
+Stops (gave (done t n)) = Unit {0}
+Stops (gave (stopped what t n)) = Number what
 Stops (refused what) = ⊥
 
-offer-refuses : (s : Standing) (r : TrackedSeq) (what : List ℕ) → checkOf (s .table) (s .seqs) (s .secs) ≡ gave tt → offered s r ≡ refused what → (what ≡ 16 ∷ []) ⊎ (what ≡ 17 ∷ [])
-offer-refuses s r what g =
-    rw g (go _ (outside (r .ts .0)) (tooSoon (s .table .«last_recorded_ts») (s .table .«interval_secs») (r .ts .0)) (lowSeq (s .seqs) (s .table .count) (r .seq .0)))
+offer-refuses : (w : Table) (r : TrackedSeq) (what : List ℕ) → checkIn w ≡ gave tt → tells w r ≡ refused what → (what ≡ 16 ∷ []) ⊎ (what ≡ 17 ∷ [])
+offer-refuses w r what g =
+    rw g (go _ (outside (r .ts .0)) (tooSoon (w .state .«last_recorded_ts») (w .state .«interval_secs») (r .ts .0)) (lowSeq (w .seqs) (w .state .count) (r .seq .0)))
   where
     go : (t : SequenceTracker) (a b c : Bool) → cond a (refused (16 ∷ [])) (cond b (gave skipped) (cond c (refused (17 ∷ [])) (gave (recorded t)))) ≡ refused what → (what ≡ 16 ∷ []) ⊎ (what ≡ 17 ∷ [])
     go t true b c e = inl (cc e)
@@ -81,11 +84,11 @@ offer-refuses s r what g =
     go t false false true e = inr (cc e)
     go t false false false e = absurd (not-given what (recorded t) (sym e))
 
-pub run-stops : (s : Standing) (i : ℕ) (rs : List TrackedSeq) → checkOf (s .table) (s .seqs) (s .secs) ≡ gave tt → Stops (runOf s i rs .answer)
+pub run-stops : (w : Table) (n : Tally) (i : ℕ) (rs : List TrackedSeq) → checkIn w ≡ gave tt → Stops (runOf w n i rs .answer)
 unfolding runOf
-run-stops s i [] g = tt
-run-stops s i (r ∷ rs) g = go (offered s r) refl (runOf (standAfter (offered s r) s r) (i + 1) rs) (run-stops (standAfter (offered s r) s r) (i + 1) rs (stays-good (s .table) (s .seqs) (s .secs) (r .seq) (r .ts) (offered s r) refl g))
+run-stops w n i [] g = tt
+run-stops w n i (r ∷ rs) g = go (tells w r) refl (runOf (afterRecord w r) (counted (tells w r) n) (i + 1) rs) (run-stops (afterRecord w r) (counted (tells w r) n) (i + 1) rs (stays-good (w .state) (w .seqs) (w .secs) (r .seq) (r .ts) (tells w r) refl g))
   where
-    go : (o : Told Outcome) → offered s r ≡ o → (l : Left) → Stops (l .answer) → Stops (unlessRefused o i s l .answer)
+    go : (o : Told Outcome) → tells w r ≡ o → (l : Left (Told Log)) → Stops (l .answer) → Stops (unlessRefused o i w n l .answer)
     go (gave o) f l h = h
-    go (refused what) f l h = ⊎-elim (λ (e : what ≡ 16 ∷ []). inl (rw e)) (λ (e : what ≡ 17 ∷ []). inr (rw e)) (offer-refuses s r what g f)
+    go (refused what) f l h = ⊎-elim (λ (e : what ≡ 16 ∷ []). inl (rw e)) (λ (e : what ≡ 17 ∷ []). inr (rw e)) (offer-refuses w r what g f)

@@ -1,46 +1,14 @@
--- The records of two lists, and how many of a list are offered.
+-- The records of two lists.
 use mathlib.Core.Path.{_≡_, refl, sym, ap, _∙_}
-use mathlib.Core.Bool.{Bool, true, false, cond}
 use mathlib.Core.List.{List, [], _∷_}
-use Prim.Native.Nat.{ℕ, zero, suc, _≤_, _<_, zero-le, suc-le-suc}
+use Prim.Native.Nat.{ℕ, zero, suc, _≤_, _<_}
 use native.Mathlib.Nat.{not-suc-le-zero, le-of-suc-le-suc, le-refl}
 use native.Mathlib.Omega.{arith}
-use borrow.Author.Tests.{ltb-true, ltb-false}
-use lib.Dec.{ltb}
 use lib.IntN.{ℤ, pos}
 use lib.ListN.{length, getD, take}
 use lib.Seq.{take-all, getD-take, length-take-le}
-use Rattle.tracker.specs.declared.TrackedSeq.{TrackedSeq}
-use Rattle.log.specs.Log.{pairOf, recordsOf}
+use Rattle.log.specs.Pairs.{pairOf, recordsOf}
 use Rattle.log.proofs.Run.{noRecord}
-
--- the smaller of two numbers
-pub at-most-le : (n m : ℕ) → (cond (ltb n m) n m ≤ n) × (cond (ltb n m) n m ≤ m)
-at-most-le n m = go (ltb n m) refl
-  where
-    go : (b : Bool) → ltb n m ≡ b → (cond b n m ≤ n) × (cond b n m ≤ m)
-    go true e = (le-refl n, omega (arith, ltb-true n m e))
-    go false e = (ltb-false n m e, le-refl m)
-
-pub at-most-is : (n m k : ℕ) → k ≤ n → k ≤ m → k ≤ cond (ltb n m) n m
-at-most-is n m k h l = go (ltb n m)
-  where
-    go : (b : Bool) → k ≤ cond b n m
-    go true = h
-    go false = l
-
-records-take : (n : ℕ) (seqs : List ℕ) (secs : List ℤ) → recordsOf (take n seqs) (take n secs) ≡ take n (recordsOf seqs secs)
-unfolding recordsOf
-records-take zero seqs secs = refl
-records-take (suc n) [] secs = refl
-records-take (suc n) (q ∷ seqs) [] = refl
-records-take (suc n) (q ∷ seqs) (s ∷ secs) = ap (λ (l : List TrackedSeq). pairOf q s ∷ l) (records-take n seqs secs)
-
-records-few : (seqs : List ℕ) (secs : List ℤ) → (length (recordsOf seqs secs) ≤ length seqs) × (length (recordsOf seqs secs) ≤ length secs)
-unfolding recordsOf
-records-few [] secs = (zero-le, zero-le)
-records-few (q ∷ seqs) [] = (zero-le, zero-le)
-records-few (q ∷ seqs) (s ∷ secs) = let h = records-few seqs secs in (suc-le-suc (h .0), suc-le-suc (h .1))
 
 records-length : (n : ℕ) (seqs : List ℕ) (secs : List ℤ) → length seqs ≡ n → length secs ≡ n → length (recordsOf seqs secs) ≡ n
 unfolding recordsOf
@@ -66,17 +34,6 @@ module _ (n : ℕ) (seqs : List ℕ) (secs : List ℤ) where
       sym (records-at (take n seqs) (take n secs) i (omega (arith, length-take-le n seqs h)) (omega (arith, length-take-le n secs l))
       ∙ rw (getD-take n seqs i 0 b, getD-take n secs i (pos 0) b))
 
--- as many as the shorter list has are all
-pub all-records : (seqs : List ℕ) (secs : List ℤ) → let n = cond (ltb (length seqs) (length secs)) (length seqs) (length secs) in recordsOf (take n seqs) (take n secs) ≡ recordsOf seqs secs
-all-records seqs secs =
-    let n = cond (ltb (length seqs) (length secs)) (length seqs) (length secs) in
-    let few = records-few seqs secs in
-    records-take n seqs secs ∙ take-all n (recordsOf seqs secs) (at-most-is (length seqs) (length secs) (length (recordsOf seqs secs)) (few .0) (few .1))
-
--- the first n of m elements, where n may be above m
-pub take-at-most : {A : Type 0} (n m : ℕ) (l : List A) → length l ≡ m → take (cond (ltb n m) n m) l ≡ take n l
-take-at-most n m l h = go (ltb n m) refl
-  where
-    go : (b : Bool) → ltb n m ≡ b → take (cond b n m) l ≡ take n l
-    go true e = refl
-    go false e = take-all m l (omega arith) ∙ sym (take-all n l (omega (arith, ltb-false n m e)))
+-- two lists of one length have no more
+pub all-records : (seqs : List ℕ) (secs : List ℤ) → length seqs ≡ length secs → recordsOf (take (length seqs) seqs) (take (length seqs) secs) ≡ recordsOf seqs secs
+all-records seqs secs e = rw (take-all (length seqs) seqs (le-refl (length seqs)), take-all (length seqs) secs (omega arith))

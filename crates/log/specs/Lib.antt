@@ -1,3 +1,3 @@
 pub mod Log
-pub mod Extend
-pub mod Progress
+pub mod Pairs
+pub mod Inner

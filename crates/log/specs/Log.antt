@@ -1,105 +1,70 @@
 -- A log of offers: records offered in order, up to the first refusal.
 use Prim.Native.Nat.{ℕ, _+_}
 use mathlib.Core.List.{List, [], _∷_, _++_}
-use lib.IntN.{ℤ}
 use Rattle.told.specs.Told.{Told, gave, refused}
 use Rattle.tracker.specs.Refusal.{told}
-use Rattle.tracker.specs.Table.{checkOf}
 use Rattle.tracker.specs.declared.TrackedSeq.{TrackedSeq}
 use Rattle.tracker.specs.declared.SequenceTracker.{SequenceTracker}
-use Rattle.offers.specs.Offer.{Outcome, recorded, skipped, offerOf, after, stateAfter}
+use Rattle.offers.specs.Whole.{Table, checkIn, Left, leaving}
+use Rattle.offers.specs.Offer.{Outcome, recorded, skipped, offerTo, offeredTo}
+use Rattle.log.specs.declared.Tally.{Tally}
 use Rattle.log.specs.declared.Logged.{Logged}
-use Rattle.log.specs.declared.Logged.the-variants.{Done, Stopped, Refused}
+use Rattle.log.specs.declared.Logged.the-variants.{Done, Stopped, Refused, OwnRefused, OtherRefused, LengthsDiffer}
 
 -- what comes of a log on a good table: all records offered, or stopped at one, with the refusal's number and the refused position;
 -- with each the state that the offers left, and the numbers recorded and skipped
 pub data Log : Type 0 where
-  done : SequenceTracker → ℕ → ℕ → Log
-  stopped : List ℕ → SequenceTracker → ℕ → ℕ → Log
+  done : SequenceTracker → Tally → Log
+  stopped : List ℕ → SequenceTracker → Tally → Log
 
--- what a log tells; a bad table has no position
+-- which of two tables was bad
+abbrev pub ownTable : ℕ
+ownTable = 0
+
+abbrev pub otherTable : ℕ
+otherTable = 1
+
+-- what a log tells: a bad table has no position; of two tables it tells, last, which was bad; two lists of different length are 18
 abbrev pub toldLog : Logged → Told Log
-toldLog (Done table n k) = gave (done table n k)
-toldLog (Stopped at why table n k) = gave (stopped (told why ++ (at ∷ [])) table n k)
+toldLog (Done table n) = gave (done table n)
+toldLog (Stopped at why table n) = gave (stopped (told why ++ (at ∷ [])) table n)
 toldLog (Refused why) = refused (told why)
-
--- what a log leaves: what it tells, and the two arrays
-pub record Left : Type 0 where
-  pub answer : Told Log
-  pub seqs : List ℕ
-  pub secs : List ℤ
-
--- how things stand between two records: the table, its arrays, the numbers recorded and skipped so far
-pub record Standing : Type 0 where
-  pub table : SequenceTracker
-  pub seqs : List ℕ
-  pub secs : List ℤ
-  pub recorded : ℕ
-  pub skipped : ℕ
+toldLog (OwnRefused why) = refused (told why ++ (ownTable ∷ []))
+toldLog (OtherRefused why) = refused (told why ++ (otherTable ∷ []))
+toldLog LengthsDiffer = refused (18 ∷ [])
 
 -- before the first record
-abbrev pub atStart : SequenceTracker → List ℕ → List ℤ → Standing
-atStart table seqs secs = record { table = table; seqs = seqs; secs = secs; recorded = 0; skipped = 0 }
+abbrev pub noneYet : Tally
+noneYet = record { recorded = 0; skipped = 0 }
 
--- what a record's offer tells there
-abbrev pub offered : Standing → TrackedSeq → Told Outcome
-offered s r = offerOf (s .table) (s .seqs) (s .secs) (r .seq) (r .ts)
+-- one more recorded or skipped, as an offer told
+abbrev pub counted : Told Outcome → Tally → Tally
+counted (gave (recorded t)) n = record { recorded = n .recorded + 1; skipped = n .skipped }
+counted (gave skipped) n = record { recorded = n .recorded; skipped = n .skipped + 1 }
+counted (refused what) n = n
 
--- one more where that was recorded
-abbrev pub countRecorded : Told Outcome → ℕ → ℕ
-countRecorded (gave (recorded t)) n = n + 1
-countRecorded (gave skipped) n = n
-countRecorded (refused what) n = n
+-- what a record's offer tells, and the table after it
+abbrev pub tells : Table → TrackedSeq → Told Outcome
+tells w r = offerTo w (r .seq) (r .ts)
 
--- one more where that was skipped
-abbrev pub countSkipped : Told Outcome → ℕ → ℕ
-countSkipped (gave (recorded t)) k = k
-countSkipped (gave skipped) k = k + 1
-countSkipped (refused what) k = k
-
--- how things stand after what an offer told
-abbrev pub standAfter : Told Outcome → Standing → TrackedSeq → Standing
-standAfter o s r = record {
-  table = stateAfter o (s .table);
-  seqs = after o (s .table) (s .seqs) (r .seq .0);
-  secs = after o (s .table) (s .secs) (r .ts .0);
-  recorded = countRecorded o (s .recorded);
-  skipped = countSkipped o (s .skipped);
-}
-
--- all records were offered
-abbrev pub allOffered : Standing → Left
-allOffered s = record { answer = gave (done (s .table) (s .recorded) (s .skipped)); seqs = s .seqs; secs = s .secs }
-
--- the record at i was refused
-abbrev pub stoppedAt : ℕ → List ℕ → Standing → Left
-stoppedAt i what s = record { answer = gave (stopped (what ++ (i ∷ [])) (s .table) (s .recorded) (s .skipped)); seqs = s .seqs; secs = s .secs }
+abbrev pub afterRecord : Table → TrackedSeq → Table
+afterRecord w r = offeredTo w (r .seq) (r .ts) (tells w r)
 
 -- a refusal of the record at i stops the log; else it goes on
-abbrev pub unlessRefused : Told Outcome → ℕ → Standing → Left → Left
-unlessRefused (gave _) i s next = next
-unlessRefused (refused what) i s next = stoppedAt i what s
+abbrev pub unlessRefused : Told Outcome → ℕ → Table → Tally → Left (Told Log) → Left (Told Log)
+unlessRefused (gave _) i w n more = more
+unlessRefused (refused what) i w n more = leaving (gave (stopped (what ++ (i ∷ [])) (w .state) n)) w
 
 -- the records from position i on, in order, up to the first refusal
-unfoldable pub runOf : Standing → ℕ → List TrackedSeq → Left
-runOf s i [] = allOffered s
-runOf s i (r ∷ rs) = unlessRefused (offered s r) i s (runOf (standAfter (offered s r) s r) (i + 1) rs)
+unfoldable pub runOf : Table → Tally → ℕ → List TrackedSeq → Left (Told Log)
+runOf w n i [] = leaving (gave (done (w .state) n)) w
+runOf w n i (r ∷ rs) = unlessRefused (tells w r) i w n (runOf (afterRecord w r) (counted (tells w r) n) (i + 1) rs)
 
 -- a bad table refuses before the first record, and the arrays are as before
-abbrev pub unlessBad : Told (Unit {0}) → List ℕ → List ℤ → Left → Left
-unlessBad (gave _) seqs secs next = next
-unlessBad (refused what) seqs secs next = record { answer = refused what; seqs = seqs; secs = secs }
+abbrev pub unlessBad : Told (Unit {0}) → Table → Left (Told Log) → Left (Told Log)
+unlessBad (gave _) w more = more
+unlessBad (refused what) w more = leaving (refused what) w
 
 -- a log of offers to a table
-abbrev pub logOf : SequenceTracker → List ℕ → List ℤ → List TrackedSeq → Left
-logOf table seqs secs records = unlessBad (checkOf table seqs secs) seqs secs (runOf (atStart table seqs secs) 0 records)
-
--- a sequence and a second as a record
-abbrev pub pairOf : ℕ → ℤ → TrackedSeq
-pairOf q s = record { seq = record { 0 = q }; ts = record { 0 = s } }
-
--- the records of two lists: as many as the shorter one has
-unfoldable pub recordsOf : List ℕ → List ℤ → List TrackedSeq
-recordsOf [] secs = []
-recordsOf (q ∷ seqs) [] = []
-recordsOf (q ∷ seqs) (s ∷ secs) = pairOf q s ∷ recordsOf seqs secs
+abbrev pub logOf : Table → List TrackedSeq → Left (Told Log)
+logOf w records = unlessBad (checkIn w) w (runOf w noneYet 0 records)

@@ -1,74 +1,44 @@
 // A log of offers: records offered to a table in order, up to the first refusal. Another table's pairs are offered the same way.
-ghost use mathlib.Core.Path.{_≡_};
-ghost use lib.ListN.{take};
-ghost use Rattle.log.specs.Log.{toldLog, recordsOf, logOf};
-ghost use Rattle.log.specs.Extend.{toldExtended, extendOf};
+// The crate `records` has the log that arrives as a lent list of records.
+ghost use Rattle.offers.specs.Whole.{whole, Leaves};
+ghost use Rattle.log.specs.Log.{toldLog};
+ghost use Rattle.log.specs.Pairs.{pairsLogOf, extendOf};
 use tracker::Checked;
 use tracker::Refusal;
 use tracker::SequenceTracker;
-use tracker::TrackedSeq;
 use tracker::check;
 
-mod lists;
-mod steps;
+pub mod inner; // inner.rt: a log record by record, for our own crates
+mod lists; // lists.rt: the pairs of two lists
+
+// The numbers recorded and skipped.
+pub struct Tally {
+    pub recorded: usize,
+    pub skipped: usize,
+}
 
 // What came of a log: all records offered; stopped at the record `at`, with the state as the offers before it left it; or
-// refused before the first record, because the table is bad.
+// refused before the first record, because a table is bad (where there are two, the own or the other), or because the two
+// lists of records differ in length.
 pub enum Logged {
     Done {
         table: SequenceTracker,
-        recorded: usize,
-        skipped: usize,
+        tally: Tally,
     },
     Stopped {
         at: usize,
         why: Refusal,
         table: SequenceTracker,
-        recorded: usize,
-        skipped: usize,
+        tally: Tally,
     },
     Refused(Refusal),
-}
-
-// The same for another table's pairs: either of the two tables may be bad.
-pub enum Extended {
-    Done {
-        table: SequenceTracker,
-        recorded: usize,
-        skipped: usize,
-    },
-    Stopped {
-        at: usize,
-        why: Refusal,
-        table: SequenceTracker,
-        recorded: usize,
-        skipped: usize,
-    },
     OwnRefused(Refusal),
     OtherRefused(Refusal),
+    LengthsDiffer,
 }
 
-// Offers the records of a lent list in order, up to the first refusal. The table is checked once.
-pub fn offer_all(
-    table: SequenceTracker,
-    seqs: &mut [u64],
-    secs: &mut [i64],
-    records: &[TrackedSeq],
-) -> Logged
-    ensures answer { λ r. ⌜ toldLog r ≡ logOf table (now (seqs .entry)) (now (secs .entry)) (now (records .entry)) .answer ⌝ }
-    ensures seqs { λ r. ⌜ now (seqs .exit) ≡ logOf table (now (seqs .entry)) (now (secs .entry)) (now (records .entry)) .seqs ⌝ }
-    ensures secs { λ r. ⌜ now (secs .exit) ≡ logOf table (now (seqs .entry)) (now (secs .entry)) (now (records .entry)) .secs ⌝ }
-{
-    let mut p = steps::begin(seqs, secs, table, records.len());
-    let mut i = 0;
-    while i < p.end {
-        p = steps::step(seqs, secs, p, records[i]);
-        i += 1;
-    }
-    steps::finish(p)
-}
-
-// The same with the sequences in one list and the seconds in another: there are as many records as the shorter list has.
+// Offers records, the sequences of which stand in one list and the seconds in another of the same length, in order, up to the
+// first refusal. The table is checked once.
 pub fn offer_pairs(
     table: SequenceTracker,
     seqs: &mut [u64],
@@ -76,32 +46,14 @@ pub fn offer_pairs(
     from_seqs: &[u64],
     from_secs: &[i64],
 ) -> Logged
-    ensures answer { λ r. ⌜ toldLog r ≡ logOf table (now (seqs .entry)) (now (secs .entry)) (recordsOf (now («from_seqs» .entry)) (now («from_secs» .entry))) .answer ⌝ }
-    ensures seqs { λ r. ⌜ now (seqs .exit) ≡ logOf table (now (seqs .entry)) (now (secs .entry)) (recordsOf (now («from_seqs» .entry)) (now («from_secs» .entry))) .seqs ⌝ }
-    ensures secs { λ r. ⌜ now (secs .exit) ≡ logOf table (now (seqs .entry)) (now (secs .entry)) (recordsOf (now («from_seqs» .entry)) (now («from_secs» .entry))) .secs ⌝ }
+    ensures { λ r. ⌜ Leaves (pairsLogOf (whole table (now (seqs .entry)) (now (secs .entry))) (now («from_seqs» .entry)) (now («from_secs» .entry))) (toldLog r) (now (seqs .exit)) (now (secs .exit)) ⌝ }
 {
-    let n = lists::at_most(from_seqs.len(), from_secs.len());
+    let n = from_seqs.len();
+    if n != from_secs.len() {
+        return Logged::LengthsDiffer;
+    }
     match check(table, seqs, secs) {
         Checked::Good => lists::pairs_good(table, seqs, secs, from_seqs, from_secs, n),
-        Checked::Refused(why) => Logged::Refused(why),
-    }
-}
-
-// The same with the first `used` records of an array by value, for callers that have no list to lend.
-pub fn offer_batch(
-    table: SequenceTracker,
-    seqs: &mut [u64],
-    secs: &mut [i64],
-    batch: [TrackedSeq; 16],
-    used: usize,
-) -> Logged
-    ensures answer { λ r. ⌜ toldLog r ≡ logOf table (now (seqs .entry)) (now (secs .entry)) (take used batch) .answer ⌝ }
-    ensures seqs { λ r. ⌜ now (seqs .exit) ≡ logOf table (now (seqs .entry)) (now (secs .entry)) (take used batch) .seqs ⌝ }
-    ensures secs { λ r. ⌜ now (secs .exit) ≡ logOf table (now (seqs .entry)) (now (secs .entry)) (take used batch) .secs ⌝ }
-{
-    let n = lists::at_most(used, 16);
-    match check(table, seqs, secs) {
-        Checked::Good => lists::batch_good(table, seqs, secs, batch, n),
         Checked::Refused(why) => Logged::Refused(why),
     }
 }
@@ -114,20 +66,15 @@ pub fn extend_from(
     other: SequenceTracker,
     other_seqs: &[u64],
     other_secs: &[i64],
-) -> Extended
-    ensures answer { λ r. ⌜ toldExtended r ≡ extendOf table (now (seqs .entry)) (now (secs .entry)) other (now («other_seqs» .entry)) (now («other_secs» .entry)) .answer ⌝ }
-    ensures seqs { λ r. ⌜ now (seqs .exit) ≡ extendOf table (now (seqs .entry)) (now (secs .entry)) other (now («other_seqs» .entry)) (now («other_secs» .entry)) .seqs ⌝ }
-    ensures secs { λ r. ⌜ now (secs .exit) ≡ extendOf table (now (seqs .entry)) (now (secs .entry)) other (now («other_seqs» .entry)) (now («other_secs» .entry)) .secs ⌝ }
+) -> Logged
+    ensures { λ r. ⌜ Leaves (extendOf (whole table (now (seqs .entry)) (now (secs .entry))) (whole other (now («other_seqs» .entry)) (now («other_secs» .entry)))) (toldLog r) (now (seqs .exit)) (now (secs .exit)) ⌝ }
 {
     let n = other.count;
     match check(table, seqs, secs) {
         Checked::Good => match check(other, other_seqs, other_secs) {
-            Checked::Good => {
-                let logged = lists::pairs_good(table, seqs, secs, other_seqs, other_secs, n);
-                lists::as_extended(logged)
-            }
-            Checked::Refused(why) => Extended::OtherRefused(why),
+            Checked::Good => lists::pairs_good(table, seqs, secs, other_seqs, other_secs, n),
+            Checked::Refused(why) => Logged::OtherRefused(why),
         },
-        Checked::Refused(why) => Extended::OwnRefused(why),
+        Checked::Refused(why) => Logged::OwnRefused(why),
     }
 }

@@ -6,9 +6,9 @@ use lib.IntN.{ℤ}
 use Rattle.told.specs.Told.{Told, gave, refused}
 use Rattle.tracker.specs.declared.Seq.{Seq}
 use Rattle.tracker.specs.declared.Second.{Second}
-use Rattle.tracker.specs.declared.SequenceTracker.{SequenceTracker}
 use Rattle.tracker.proofs.Unique.{undone, refusalOf, refusal-back}
-use Rattle.offers.specs.Offer.{Outcome, recorded, skipped, toldOffer, offerOf, after}
+use Rattle.offers.specs.Whole.{Table, Left, Leaves}
+use Rattle.offers.specs.Offer.{Outcome, recorded, skipped, toldOffer, offerTo, offeredTo, offering}
 use Rattle.offers.specs.declared.Offered.{Offered}
 use Rattle.offers.specs.declared.Offered.the-variants.{Recorded, Skipped, Refused}
 
@@ -27,18 +27,17 @@ one-answer = undone toldOffer offeredOf (λ o. back o)
     back Skipped = refl
     back (Refused r) = ap Refused (refusal-back r)
 
-module _ (table : SequenceTracker) (seqs : List ℕ) (secs : List ℤ) (seq : Seq) (ts : Second) where
-  -- an answer and two arrays that fit the statement of `offer`
-  pub record Fits (r : Offered) (seqs′ : List ℕ) (secs′ : List ℤ) : Type 0 where
-    pub answer : toldOffer r ≡ offerOf table seqs secs seq ts
-    pub the-seqs : seqs′ ≡ after (toldOffer r) table seqs (seq .0)
-    pub the-secs : secs′ ≡ after (toldOffer r) table secs (ts .0)
+-- no second answer and no second arrays fit what a call leaves, where the answer is had back from what it tells
+pub one-left : {A R : Type 0} (tells : R → A) → ((a b : R) → tells a ≡ tells b → a ≡ b) → (left : Left A) (a b : R) (seqs₁ seqs₂ : List ℕ) (secs₁ secs₂ : List ℤ)
+    → Leaves left (tells a) seqs₁ secs₁ → Leaves left (tells b) seqs₂ secs₂ → (a ≡ b) × (seqs₁ ≡ seqs₂) × (secs₁ ≡ secs₂)
+one-left tells one left a b seqs₁ seqs₂ secs₁ secs₂ p q = (one a b (p .0 ∙ sym (q .0)), p .1 ∙ sym (q .1), p .2 ∙ sym (q .2))
 
-  pub one-offer : (a b : Offered) (seqs₁ seqs₂ : List ℕ) (secs₁ secs₂ : List ℤ) → Fits a seqs₁ secs₁ → Fits b seqs₂ secs₂
-      → (a ≡ b) × (seqs₁ ≡ seqs₂) × (secs₁ ≡ secs₂)
-  one-offer a b seqs₁ seqs₂ secs₁ secs₂ p q =
-      let e = p .answer ∙ sym (q .answer) in (
-        one-answer a b e,
-        p .the-seqs ∙ ap (λ (o : Told Outcome). after o table seqs (seq .0)) e ∙ sym (q .the-seqs),
-        p .the-secs ∙ ap (λ (o : Told Outcome). after o table secs (ts .0)) e ∙ sym (q .the-secs),
-      )
+-- of `offer`
+pub one-offer : (w : Table) (seq : Seq) (ts : Second) (a b : Offered) (seqs₁ seqs₂ : List ℕ) (secs₁ secs₂ : List ℤ)
+    → Leaves (offering w seq ts) (toldOffer a) seqs₁ secs₁ → Leaves (offering w seq ts) (toldOffer b) seqs₂ secs₂ → (a ≡ b) × (seqs₁ ≡ seqs₂) × (secs₁ ≡ secs₂)
+one-offer w seq ts = one-left toldOffer one-answer (offering w seq ts)
+
+-- what an offer leaves, by what its answer tells
+pub left-by : (w : Table) (seq : Seq) (ts : Second) {told : Told Outcome} {seqs : List ℕ} {secs : List ℤ} → told ≡ offerTo w seq ts → seqs ≡ offeredTo w seq ts told .seqs → secs ≡ offeredTo w seq ts told .secs
+    → Leaves (offering w seq ts) told seqs secs
+left-by w seq ts e x z = (e, x ∙ ap (λ (o : Told Outcome). offeredTo w seq ts o .seqs) e, z ∙ ap (λ (o : Told Outcome). offeredTo w seq ts o .secs) e)

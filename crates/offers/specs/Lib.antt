@@ -1,2 +1,3 @@
 pub mod Keep
+pub mod Whole
 pub mod Offer

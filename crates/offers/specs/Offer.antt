@@ -17,6 +17,7 @@ use Rattle.tracker.specs.declared.SequenceTracker.{SequenceTracker}
 use Rattle.tracker.specs.declared.LastRecorded.{LastRecorded}
 use Rattle.tracker.specs.declared.LastRecorded.the-variants.{Never, At}
 use Rattle.offers.specs.Keep.{keptWith}
+use Rattle.offers.specs.Whole.{Table, whole, Left, leaving}
 use Rattle.offers.specs.declared.Offered.{Offered}
 use Rattle.offers.specs.declared.Offered.the-variants.{Recorded, Skipped, Refused}
 
@@ -64,3 +65,16 @@ abbrev pub stateAfter : Told Outcome → SequenceTracker → SequenceTracker
 stateAfter (gave (recorded t)) table = t
 stateAfter (gave skipped) table = table
 stateAfter (refused what) table = table
+
+-- what `offer` tells of a table whole
+abbrev pub offerTo : Table → Seq → Second → Told Outcome
+offerTo w seq ts = offerOf (w .state) (w .seqs) (w .secs) seq ts
+
+-- the table after an offer that tells this; skipped or refused, it is as it was
+abbrev pub offeredTo : Table → Seq → Second → Told Outcome → Table
+offeredTo w seq ts told =
+    whole (stateAfter told (w .state)) (after told (w .state) (w .seqs) (seq .0)) (after told (w .state) (w .secs) (ts .0))
+
+-- an offer: what it tells and leaves
+abbrev pub offering : Table → Seq → Second → Left (Told Outcome)
+offering w seq ts = leaving (offerTo w seq ts) (offeredTo w seq ts (offerTo w seq ts))

@@ -2,7 +2,8 @@
 ghost use mathlib.Core.Path.{_≡_};
 ghost use Rattle.told.specs.Told.{gave};
 ghost use Rattle.tracker.specs.Table.{checkOf};
-ghost use Rattle.offers.specs.Offer.{toldOffer, offerOf, after};
+ghost use Rattle.offers.specs.Whole.{whole, Leaves};
+ghost use Rattle.offers.specs.Offer.{toldOffer, offering};
 use crate::Offered;
 use crate::keep;
 use crate::steps;
@@ -21,9 +22,7 @@ pub fn offer_good(
     ts: Second,
 ) -> Offered
     requires { ⌜ checkOf table (now seqs) (now secs) ≡ gave tt ⌝ }
-    ensures answer { λ r. ⌜ toldOffer r ≡ offerOf table (now (seqs .entry)) (now (secs .entry)) seq ts ⌝ }
-    ensures seqs { λ r. ⌜ now (seqs .exit) ≡ after (toldOffer r) table (now (seqs .entry)) (seq .0) ⌝ }
-    ensures secs { λ r. ⌜ now (secs .exit) ≡ after (toldOffer r) table (now (secs .entry)) (ts .0) ⌝ }
+    ensures { λ r. ⌜ Leaves (offering (whole table (now (seqs .entry)) (now (secs .entry))) seq ts) (toldOffer r) (now (seqs .exit)) (now (secs .exit)) ⌝ }
 {
     let q = seq.0;
     let s = ts.0;

@@ -1,6 +1,6 @@
 // One offer to a table: a pair is recorded, skipped or refused.
-ghost use mathlib.Core.Path.{_≡_};
-ghost use Rattle.offers.specs.Offer.{toldOffer, offerOf, after};
+ghost use Rattle.offers.specs.Whole.{whole, Leaves};
+ghost use Rattle.offers.specs.Offer.{toldOffer, offering};
 use tracker::Checked;
 use tracker::Refusal;
 use tracker::Second;
@@ -26,9 +26,7 @@ pub fn offer(
     seq: Seq,
     ts: Second,
 ) -> Offered
-    ensures answer { λ r. ⌜ toldOffer r ≡ offerOf table (now (seqs .entry)) (now (secs .entry)) seq ts ⌝ }
-    ensures seqs { λ r. ⌜ now (seqs .exit) ≡ after (toldOffer r) table (now (seqs .entry)) (seq .0) ⌝ }
-    ensures secs { λ r. ⌜ now (secs .exit) ≡ after (toldOffer r) table (now (secs .entry)) (ts .0) ⌝ }
+    ensures { λ r. ⌜ Leaves (offering (whole table (now (seqs .entry)) (now (secs .entry))) seq ts) (toldOffer r) (now (seqs .exit)) (now (secs .exit)) ⌝ }
 {
     let checked = check(table, seqs, secs);
     match checked {

@@ -6,6 +6,7 @@ ghost use lib.ListN.{length};
 ghost use Rattle.tracker.specs.Domain.{outside};
 ghost use Rattle.tracker.specs.Table.{lastOutside};
 ghost use Rattle.offers.specs.Offer.{tooSoon, lowSeq, stateWith};
+use signed::as_signed;
 use tracker::LastRecorded;
 use tracker::Second;
 use tracker::SequenceTracker;
@@ -20,7 +21,7 @@ pub(crate) fn too_soon(last: LastRecorded, interval_secs: u64, s: i64) -> bool
         LastRecorded::At(before) => {
             let x = before.0;
             let passed = s - x;
-            passed < (interval_secs as i64)
+            passed < as_signed(interval_secs)
         }
     }
 }

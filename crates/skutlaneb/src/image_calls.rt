@@ -1,9 +1,9 @@
 // Images of arrays, written and read.
 ghost use mathlib.Core.Path.{_≡_};
-ghost use lib.ListN.{length};
 ghost use Rattle.encoder.specs.Encode as encoding;
 ghost use Rattle.decoder.specs.Decode as decoding;
 ghost use Rattle.answers.specs.Answer.{ofCount};
+ghost use Rattle.skutlaneb.specs.Calls.{Encodes};
 use answers::Answer;
 use answers::inner;
 
@@ -18,8 +18,7 @@ pub extern "C" fn skut_encoded_len(seqs: &[u64], secs: &[i64]) -> Answer
 // Gives the bytes written.
 #[no_mangle]
 pub extern "C" fn skut_encode(seqs: &[u64], secs: &[i64], out: &mut [u8]) -> Answer
-    ensures answer { λ r. ⌜ r ≡ ofCount (encoding.encodeRule (now (seqs .entry)) (now (secs .entry)) (length (now (out .entry)))) ⌝ }
-    ensures out { λ r. ⌜ now (out .exit) ≡ encoding.encodedIn (now (seqs .entry)) (now (secs .entry)) (encoding.encodeRule (now (seqs .entry)) (now (secs .entry)) (length (now (out .entry)))) (now (out .entry)) ⌝ }
+    ensures { λ r. ⌜ Encodes encoding.encodeRule (now (seqs .entry)) (now (secs .entry)) (now (out .entry)) r (now (out .exit)) ⌝ }
 {
     inner::of_encoded(encoder::encode(seqs, secs, out))
 }
@@ -27,8 +26,7 @@ pub extern "C" fn skut_encode(seqs: &[u64], secs: &[i64], out: &mut [u8]) -> Ans
 // Gives the bytes written.
 #[no_mangle]
 pub extern "C" fn skut_encode_strict(seqs: &[u64], secs: &[i64], out: &mut [u8]) -> Answer
-    ensures answer { λ r. ⌜ r ≡ ofCount (encoding.strictRule (now (seqs .entry)) (now (secs .entry)) (length (now (out .entry)))) ⌝ }
-    ensures out { λ r. ⌜ now (out .exit) ≡ encoding.encodedIn (now (seqs .entry)) (now (secs .entry)) (encoding.strictRule (now (seqs .entry)) (now (secs .entry)) (length (now (out .entry)))) (now (out .entry)) ⌝ }
+    ensures { λ r. ⌜ Encodes encoding.strictRule (now (seqs .entry)) (now (secs .entry)) (now (out .entry)) r (now (out .exit)) ⌝ }
 {
     inner::of_encoded(encoder::encode_strict(seqs, secs, out))
 }

@@ -1,4 +1,4 @@
-// The public calls for programs in other languages: a static library of plain functions, built by `rt staticlib exports`.
+// The public calls for programs in other languages: a static library of plain functions, built by `rt staticlib skutlaneb`.
 //
 // Numbers, slices and structs of numbers cross; a slice is a pointer and a length. No call has a `requires`: any numbers
 // are taken, and what they do not make is refused by document 01's number. No call allocates. `skut_restore` takes 128 KB

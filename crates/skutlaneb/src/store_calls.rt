@@ -1,10 +1,6 @@
 // A table saved as an image, and restored from one.
-ghost use mathlib.Core.Path.{_≡_};
-ghost use lib.ListN.{length};
-ghost use Rattle.store.specs.Save.{saveOf, saveStrictOf, savedIn};
-ghost use Rattle.store.specs.Restore.{restoreOf, seqsAfter, secsAfter};
-ghost use Rattle.answers.specs.Answer.{ofCount};
-ghost use Rattle.table_answers.specs.Table.{tableOf, ofTable};
+ghost use Rattle.store.specs.Save.{saveOf, saveStrictOf};
+ghost use Rattle.skutlaneb.specs.Calls.{Saves, Restores};
 use answers::Answer;
 use answers::inner;
 use table_answers::State;
@@ -14,8 +10,7 @@ use table_answers::inner as tables;
 // Gives the bytes written.
 #[no_mangle]
 pub extern "C" fn skut_save(state: State, seqs: &[u64], secs: &[i64], out: &mut [u8]) -> Answer
-    ensures answer { λ r. ⌜ r ≡ ofCount (saveOf (tableOf state) (now (seqs .entry)) (now (secs .entry)) (length (now (out .entry)))) ⌝ }
-    ensures out { λ r. ⌜ now (out .exit) ≡ savedIn (tableOf state) (now (seqs .entry)) (now (secs .entry)) (saveOf (tableOf state) (now (seqs .entry)) (now (secs .entry)) (length (now (out .entry)))) (now (out .entry)) ⌝ }
+    ensures { λ r. ⌜ Saves saveOf state (now (seqs .entry)) (now (secs .entry)) (now (out .entry)) r (now (out .exit)) ⌝ }
 {
     let table = tables::table_of(state);
     inner::of_saved(store::save(table, seqs, secs, out))
@@ -29,8 +24,7 @@ pub extern "C" fn skut_save_strict(
     secs: &[i64],
     out: &mut [u8],
 ) -> Answer
-    ensures answer { λ r. ⌜ r ≡ ofCount (saveStrictOf (tableOf state) (now (seqs .entry)) (now (secs .entry)) (length (now (out .entry)))) ⌝ }
-    ensures out { λ r. ⌜ now (out .exit) ≡ savedIn (tableOf state) (now (seqs .entry)) (now (secs .entry)) (saveStrictOf (tableOf state) (now (seqs .entry)) (now (secs .entry)) (length (now (out .entry)))) (now (out .entry)) ⌝ }
+    ensures { λ r. ⌜ Saves saveStrictOf state (now (seqs .entry)) (now (secs .entry)) (now (out .entry)) r (now (out .exit)) ⌝ }
 {
     let table = tables::table_of(state);
     inner::of_saved(store::save_strict(table, seqs, secs, out))
@@ -39,9 +33,7 @@ pub extern "C" fn skut_save_strict(
 // Needs 130 KB of stack: two arrays of 8,192 are its own.
 #[no_mangle]
 pub extern "C" fn skut_restore(bytes: &[u8], seqs: &mut [u64], secs: &mut [i64]) -> TableAnswer
-    ensures answer { λ r. ⌜ r ≡ ofTable (restoreOf (now (bytes .entry)) (now (seqs .entry)) (now (secs .entry))) ⌝ }
-    ensures seqs { λ r. ⌜ now (seqs .exit) ≡ seqsAfter (now (bytes .entry)) (restoreOf (now (bytes .entry)) (now (seqs .entry)) (now (secs .entry))) (now (seqs .entry)) ⌝ }
-    ensures secs { λ r. ⌜ now (secs .exit) ≡ secsAfter (now (bytes .entry)) (restoreOf (now (bytes .entry)) (now (seqs .entry)) (now (secs .entry))) (now (secs .entry)) ⌝ }
+    ensures { λ r. ⌜ Restores (now (bytes .entry)) (now (seqs .entry)) (now (secs .entry)) r (now (seqs .exit)) (now (secs .exit)) ⌝ }
 {
     tables::of_restored(store::restore(bytes, seqs, secs))
 }

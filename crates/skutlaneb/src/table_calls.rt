@@ -1,13 +1,12 @@
 // A table: settings, the check, offers, lookups. A second is a signed number, a sequence an unsigned one.
 ghost use mathlib.Core.Path.{_≡_};
+ghost use Rattle.told.specs.Told.{gave};
 ghost use Rattle.tracker.specs.Settings.{newTable, configOf};
 ghost use Rattle.tracker.specs.Table.{checkOf};
 ghost use Rattle.lookup.specs.Find.{findTs, findSeq};
-ghost use Rattle.offers.specs.Offer.{offerOf, after};
-ghost use Rattle.log.specs.Log.{recordsOf, logOf};
-ghost use Rattle.log.specs.Extend.{extendOf};
 ghost use Rattle.answers.specs.Answer.{ofCheck, ofTs, ofSeq};
-ghost use Rattle.table_answers.specs.Table.{tableOf, roundOf, stands, ofTable, ofOffer, ofLog};
+ghost use Rattle.table_answers.specs.Table.{tableOf, roundOf, ofTable};
+ghost use Rattle.skutlaneb.specs.Calls.{Offers, OffersPairs, Extends};
 use answers::Answer;
 use answers::inner;
 use table_answers::State;
@@ -19,9 +18,9 @@ use tracker::Seq;
 // An empty table with the default settings.
 #[no_mangle]
 pub extern "C" fn skut_new() -> TableAnswer
-    ensures { λ r. ⌜ r ≡ stands newTable 0 0 ⌝ }
+    ensures { λ r. ⌜ r ≡ ofTable (gave newTable) ⌝ }
 {
-    tables::stands(tracker::new(), 0, 0)
+    tables::fresh(tracker::new())
 }
 
 // An empty table with the settings named.
@@ -50,16 +49,14 @@ pub extern "C" fn skut_offer(
     seq: u64,
     sec: i64,
 ) -> TableAnswer
-    ensures answer { λ r. ⌜ r ≡ ofOffer (tableOf state) (offerOf (tableOf state) (now (seqs .entry)) (now (secs .entry)) (record { 0 = seq }) (record { 0 = sec })) ⌝ }
-    ensures seqs { λ r. ⌜ now (seqs .exit) ≡ after (offerOf (tableOf state) (now (seqs .entry)) (now (secs .entry)) (record { 0 = seq }) (record { 0 = sec })) (tableOf state) (now (seqs .entry)) seq ⌝ }
-    ensures secs { λ r. ⌜ now (secs .exit) ≡ after (offerOf (tableOf state) (now (seqs .entry)) (now (secs .entry)) (record { 0 = seq }) (record { 0 = sec })) (tableOf state) (now (secs .entry)) sec ⌝ }
+    ensures { λ r. ⌜ Offers state (now (seqs .entry)) (now (secs .entry)) seq sec r (now (seqs .exit)) (now (secs .exit)) ⌝ }
 {
     let table = tables::table_of(state);
     let offered = offers::offer(table, seqs, secs, Seq(seq), Second(sec));
     tables::of_offered(table, offered)
 }
 
-// A list of offers, as many as the shorter of two lists has. Stopped at a record, the answer tells its position.
+// A list of offers: two lists of one length. Stopped at a record, the answer tells its position.
 #[no_mangle]
 pub extern "C" fn skut_offer_pairs(
     state: State,
@@ -68,9 +65,7 @@ pub extern "C" fn skut_offer_pairs(
     from_seqs: &[u64],
     from_secs: &[i64],
 ) -> TableAnswer
-    ensures answer { λ r. ⌜ r ≡ ofLog (logOf (tableOf state) (now (seqs .entry)) (now (secs .entry)) (recordsOf (now («from_seqs» .entry)) (now («from_secs» .entry))) .answer) ⌝ }
-    ensures seqs { λ r. ⌜ now (seqs .exit) ≡ logOf (tableOf state) (now (seqs .entry)) (now (secs .entry)) (recordsOf (now («from_seqs» .entry)) (now («from_secs» .entry))) .seqs ⌝ }
-    ensures secs { λ r. ⌜ now (secs .exit) ≡ logOf (tableOf state) (now (seqs .entry)) (now (secs .entry)) (recordsOf (now («from_seqs» .entry)) (now («from_secs» .entry))) .secs ⌝ }
+    ensures { λ r. ⌜ OffersPairs state (now (seqs .entry)) (now (secs .entry)) (now («from_seqs» .entry)) (now («from_secs» .entry)) r (now (seqs .exit)) (now (secs .exit)) ⌝ }
 {
     let table = tables::table_of(state);
     tables::of_logged(log::offer_pairs(table, seqs, secs, from_seqs, from_secs))
@@ -86,14 +81,12 @@ pub extern "C" fn skut_extend_from(
     other_seqs: &[u64],
     other_secs: &[i64],
 ) -> TableAnswer
-    ensures answer { λ r. ⌜ r ≡ ofLog (extendOf (tableOf state) (now (seqs .entry)) (now (secs .entry)) (tableOf other) (now («other_seqs» .entry)) (now («other_secs» .entry)) .answer) ⌝ }
-    ensures seqs { λ r. ⌜ now (seqs .exit) ≡ extendOf (tableOf state) (now (seqs .entry)) (now (secs .entry)) (tableOf other) (now («other_seqs» .entry)) (now («other_secs» .entry)) .seqs ⌝ }
-    ensures secs { λ r. ⌜ now (secs .exit) ≡ extendOf (tableOf state) (now (seqs .entry)) (now (secs .entry)) (tableOf other) (now («other_seqs» .entry)) (now («other_secs» .entry)) .secs ⌝ }
+    ensures { λ r. ⌜ Extends state (now (seqs .entry)) (now (secs .entry)) other (now («other_seqs» .entry)) (now («other_secs» .entry)) r (now (seqs .exit)) (now (secs .exit)) ⌝ }
 {
     let table = tables::table_of(state);
     let from = tables::table_of(other);
-    let extended = log::extend_from(table, seqs, secs, from, other_seqs, other_secs);
-    tables::of_extended(extended)
+    let logged = log::extend_from(table, seqs, secs, from, other_seqs, other_secs);
+    tables::of_logged(logged)
 }
 
 // Gives 1 and the second for a sequence, by its 64 bits, or 0. A `round` of 0 rounds up, any other down.

@@ -7,7 +7,8 @@ mod states; // states.rt: a table's state, in and out
 
 use answers::Answer;
 
-// A table's state. `has_last` says whether `last` is there: 0 is no, any other number yes.
+// A table's state. `has_last` says whether `last` is there: 0 is no, 1 yes, and any other number makes it a state that every
+// call refuses.
 #[repr(C)]
 pub struct State {
     pub count: usize,

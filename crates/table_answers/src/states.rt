@@ -1,13 +1,21 @@
 // A table's state as it crosses, and the answers that hold one.
 ghost use mathlib.Core.Path.{_≡_};
-ghost use Rattle.table_answers.specs.Table.{lastIn, tableOf, roundOf, markOf, secondOf, stateOf, stands, noTable};
+ghost use mathlib.Core.Bool.{cond};
+ghost use lib.Dec.{ltb};
+ghost use Rattle.answers.specs.Answer.{given};
+ghost use Rattle.log.specs.Log.{noneYet};
+ghost use Rattle.table_answers.specs.Table.{lastIn, noCapacity, tableOf, roundOf, markOf, secondOf, stateOf, withTable, noState};
 use crate::State;
 use crate::TableAnswer;
 use answers::Answer;
+use log::Tally;
 use lookup::FindOption;
 use tracker::LastRecorded;
 use tracker::Second;
 use tracker::SequenceTracker;
+
+// A capacity above 8,192, which every call refuses with 14.
+const NO_CAPACITY: u32 = 4294967295;
 
 fn last_in(mark: u32, last: i64) -> LastRecorded
     ensures { λ r. ⌜ r ≡ lastIn mark last ⌝ }
@@ -18,13 +26,20 @@ fn last_in(mark: u32, last: i64) -> LastRecorded
     LastRecorded::At(Second(last))
 }
 
+fn capacity_in(mark: u32, capacity: u32) -> u32
+    ensures { λ r. ⌜ r ≡ cond (ltb 1 mark) noCapacity capacity ⌝ }
+{
+    if mark > 1 { NO_CAPACITY } else { capacity }
+}
+
 pub fn table_of(state: State) -> SequenceTracker
     ensures { λ r. ⌜ r ≡ tableOf state ⌝ }
 {
     let last = last_in(state.has_last, state.last);
+    let capacity = capacity_in(state.has_last, state.capacity);
     SequenceTracker {
         count: state.count,
-        capacity: state.capacity,
+        capacity: capacity,
         interval_secs: state.interval_secs,
         last_recorded_ts: last,
     }
@@ -71,26 +86,21 @@ fn state_of(table: SequenceTracker) -> State
 }
 
 // An answer with a table's state and the numbers recorded and skipped.
-pub fn with_table(
-    answer: Answer,
-    table: SequenceTracker,
-    recorded: usize,
-    skipped: usize,
-) -> TableAnswer
-    ensures { λ r. ⌜ r ≡ record { answer = answer; recorded = recorded; skipped = skipped; state = stateOf table } ⌝ }
+pub fn with_table(answer: Answer, table: SequenceTracker, tally: Tally) -> TableAnswer
+    ensures { λ r. ⌜ r ≡ withTable answer table tally ⌝ }
 {
     let state = state_of(table);
     TableAnswer {
         answer: answer,
-        recorded: recorded as u64,
-        skipped: skipped as u64,
+        recorded: tally.recorded as u64,
+        skipped: tally.skipped as u64,
         state: state,
     }
 }
 
 // Not refused.
-pub fn stands(table: SequenceTracker, recorded: usize, skipped: usize) -> TableAnswer
-    ensures { λ r. ⌜ r ≡ stands table recorded skipped ⌝ }
+pub fn stands(table: SequenceTracker, tally: Tally) -> TableAnswer
+    ensures { λ r. ⌜ r ≡ withTable (given 0 0 0) table tally ⌝ }
 {
     with_table(
         Answer {
@@ -100,14 +110,26 @@ pub fn stands(table: SequenceTracker, recorded: usize, skipped: usize) -> TableA
             c: 0,
         },
         table,
-        recorded,
-        skipped,
+        tally,
     )
 }
 
-// Refused: the state is one that every call refuses, as its capacity is above 8,192.
+// Not refused, and no offers made.
+pub fn fresh(table: SequenceTracker) -> TableAnswer
+    ensures { λ r. ⌜ r ≡ withTable (given 0 0 0) table noneYet ⌝ }
+{
+    stands(
+        table,
+        Tally {
+            recorded: 0,
+            skipped: 0,
+        },
+    )
+}
+
+// Refused, with a state that every call refuses.
 pub fn no_table(answer: Answer) -> TableAnswer
-    ensures { λ r. ⌜ r ≡ noTable answer ⌝ }
+    ensures { λ r. ⌜ r ≡ record { answer = answer; recorded = 0; skipped = 0; state = noState } ⌝ }
 {
     TableAnswer {
         answer: answer,
@@ -115,7 +137,7 @@ pub fn no_table(answer: Answer) -> TableAnswer
         skipped: 0,
         state: State {
             count: 0,
-            capacity: 4294967295,
+            capacity: NO_CAPACITY,
             has_last: 0,
             interval_secs: 0,
             last: 0,

@@ -7,7 +7,6 @@ use crate::body::u32_at;
 use crate::body::u64_at;
 use crate::lists;
 use crate::told;
-use log::Extended;
 use log::Logged;
 use offers::Offered;
 use store::Restored;
@@ -107,58 +106,31 @@ fn none_ran(table: SequenceTracker, refused: usize) -> Ran {
 
 fn logged_of(logged: Logged, own: SequenceTracker) -> Ran {
     match logged {
-        Logged::Done {
-            table,
-            recorded,
-            skipped,
-        } => Ran {
+        Logged::Done { table, tally } => Ran {
             table: table,
-            recorded: recorded,
-            skipped: skipped,
+            recorded: tally.recorded,
+            skipped: tally.skipped,
             refused: 0,
         },
         Logged::Stopped {
             at,
             why,
             table,
-            recorded,
-            skipped,
+            tally,
         } => Ran {
             table: table,
-            recorded: recorded,
-            skipped: skipped,
-            refused: stopped_at(at, why, std::num::wrapping_add_usize(recorded, skipped)),
+            recorded: tally.recorded,
+            skipped: tally.skipped,
+            refused: stopped_at(
+                at,
+                why,
+                std::num::wrapping_add_usize(tally.recorded, tally.skipped),
+            ),
         },
         Logged::Refused(_) => none_ran(own, UNEXPECTED),
-    }
-}
-
-fn extended_of(extended: Extended, own: SequenceTracker) -> Ran {
-    match extended {
-        Extended::Done {
-            table,
-            recorded,
-            skipped,
-        } => Ran {
-            table: table,
-            recorded: recorded,
-            skipped: skipped,
-            refused: 0,
-        },
-        Extended::Stopped {
-            at,
-            why,
-            table,
-            recorded,
-            skipped,
-        } => Ran {
-            table: table,
-            recorded: recorded,
-            skipped: skipped,
-            refused: stopped_at(at, why, std::num::wrapping_add_usize(recorded, skipped)),
-        },
-        Extended::OwnRefused(_) => none_ran(own, UNEXPECTED),
-        Extended::OtherRefused(_) => none_ran(own, UNEXPECTED),
+        Logged::OwnRefused(_) => none_ran(own, UNEXPECTED),
+        Logged::OtherRefused(_) => none_ran(own, UNEXPECTED),
+        Logged::LengthsDiffer => none_ran(own, UNEXPECTED),
     }
 }
 
@@ -205,7 +177,7 @@ pub fn extended(b: &[u8], table: SequenceTracker, seqs: &mut [u64], secs: &mut [
     lists::read_pairs(b, 13, n, &mut from_seqs, &mut from_secs);
     let other = other_of(b, n, last_of(&from_secs, n));
     let told = log::extend_from(table, seqs, secs, other, &from_seqs, &from_secs);
-    extended_so(b, extended_of(told, table))
+    extended_so(b, logged_of(told, table))
 }
 
 fn settings_so(b: &[u8], table: SequenceTracker) -> bool {

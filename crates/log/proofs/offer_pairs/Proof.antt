@@ -1,16 +1,19 @@
 use borrow.Author.Needs.{needs}
-use mathlib.Core.Path.{sym, ap, _∙_}
+use mathlib.Core.Path.{_≡_, refl, sym, ap, _∙_}
+use native.Mathlib.Omega.{arith}
+use borrow.Author.Tests.{eq-eqb, ne-eqb}
+use lib.ListN.{length}
 use Rattle.tracker.specs.Refusal.{toldCheck}
-use Prim.Native.Nat.{ℕ}
-use lib.ListN.{take}
-use Rattle.log.specs.Log.{Left, recordsOf}
-use Rattle.log.proofs.Run.{good-log}
-use Rattle.log.proofs.Records.{at-most-le, all-records}
+use Rattle.log.proofs.Records.{all-records}
 use Rattle.log.proofs.offer_pairs.Statement.{statement}
 use Rattle.log.proofs.offer_pairs.Tie as tie
 
-at-most-requires : tie.Need-at-most-requires
-at-most-requires c κs = search needs
+returns : tie.Need-returns
+returns c = rw (ne-eqb _ _ (c .if1 .taken)) (refl, refl, refl)
+
+-- the lists are of one length
+same : (c : tie.Else1) → let a = c .before .before .before .args in length (a .from-seqs .now) ≡ length (a .from-secs .now)
+same c = c .if1 .left
 
 check-requires : tie.Need-check-requires
 check-requires c κs = search needs
@@ -20,8 +23,9 @@ enum-told c = search needs
 
 pairs-good-requires : tie.Need-pairs-good-requires
 pairs-good-requires c κs =
-    let m = at-most-le _ _ in
-    (sym (c .before .before .before .before .check .ensures) ∙ ap toldCheck (c .before .before .enum-told .given .1), rw (c .before .before .before .before .before .before .before .at-most .ensures) (m .0), rw (c .before .before .before .before .before .before .before .at-most .ensures) (m .1))
+    let told = c .before .before in
+    let e = same (told .before .before .before .before .before) in
+    (sym (told .before .before .check .ensures) ∙ ap toldCheck (told .enum-told .given .1), omega arith, omega (arith, e))
 
 enum-known-why : tie.Need-enum-known-why
 enum-known-why c = search needs
@@ -32,15 +36,13 @@ same-length c = search needs
 same-length-2 : tie.Need-same-length-2
 same-length-2 c = search needs
 
-returns : tie.Need-returns
-returns c =
-    let told = c .before .before .before .before .before .before in
-    let s = told .before .before .before .before .before .before .before .before in
-    let k = c .before .before .before .pairs-good in
-    let good = sym (told .before .before .check .ensures) ∙ ap toldCheck (told .enum-told .given .1) in
-    let a = s .args in
-    let e = good-log _ _ _ _ _ good (ap (λ (n : ℕ). recordsOf (take n (a .from-seqs .now)) (take n (a .from-secs .now))) (told .before .before .before .before .before .at-most .ensures) ∙ all-records (a .from-seqs .now) (a .from-secs .now)) in
-    (k .ensures .0 ∙ ap (λ (l : Left). l .answer) e, (k .ensures .1 .0 ∙ ap (λ (l : Left). l .seqs) e, k .ensures .1 .1 ∙ ap (λ (l : Left). l .secs) e))
+returns-2 : tie.Need-returns-2
+returns-2 c =
+    let called = c .before .before .before in
+    let told = called .before .before .before in
+    let else = told .before .before .before .before .before in
+    let a = else .before .before .before .args in
+    rw (eq-eqb _ _ (same else), sym (told .before .before .check .ensures) ∙ ap toldCheck (told .enum-told .given .1), ← all-records (a .from-seqs .now) (a .from-secs .now) (same else)) (called .pairs-good .ensures)
 
 same-length-3 : tie.Need-same-length-3
 same-length-3 c = search needs
@@ -48,21 +50,23 @@ same-length-3 c = search needs
 same-length-4 : tie.Need-same-length-4
 same-length-4 c = search needs
 
-returns-2 : tie.Need-returns-2
-returns-2 c = let h = c .before .before .before .check .ensures in (rw (← h, c .before .why .given .1), (rw (← h, c .before .why .given .1), rw (← h, c .before .why .given .1)))
+returns-3 : tie.Need-returns-3
+returns-3 c =
+    let checked = c .before .before .before in
+    rw (eq-eqb _ _ (same (checked .before .before .before)), ← checked .check .ensures, c .before .why .given .1) (refl, refl, refl)
 
 pub offer-pairs-spec : {M : Type 1} → statement M
 offer-pairs-spec =
     tie.close
     (tie.spec
-    at-most-requires
+    returns
     check-requires
     enum-told
     pairs-good-requires
     enum-known-why
     same-length
     same-length-2
-    returns
+    returns-2
     same-length-3
     same-length-4
-    returns-2)
+    returns-3)

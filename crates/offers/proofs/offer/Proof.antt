@@ -1,6 +1,7 @@
 use borrow.Author.Needs.{needs}
 use mathlib.Core.Path.{refl, sym, ap, _∙_}
 use Rattle.tracker.specs.Refusal.{toldCheck}
+use Rattle.offers.proofs.Unique.{left-by}
 use Rattle.offers.proofs.offer.Statement.{statement}
 use Rattle.offers.proofs.offer.Tie as tie
 
@@ -34,7 +35,11 @@ same-length-4 : tie.Need-same-length-4
 same-length-4 c = search needs
 
 returns-2 : tie.Need-returns-2
-returns-2 c = (rw (← c .before .before .before .check .ensures, c .before .checked .given .1), (refl, refl))
+returns-2 c =
+    let checked = c .before .before .before in
+    let a = checked .before .before .before .before .args in
+    left-by (record { state = a .table; seqs = a .seqs .now; secs = a .secs .now }) (a .seq) (a .ts)
+    (rw (← checked .check .ensures, c .before .checked .given .1)) refl refl
 
 pub offer-spec : {M : Type 1} → statement M
 offer-spec =

@@ -3,16 +3,20 @@ use mathlib.Core.Path.{_≡_, refl, sym, ap, _∙_}
 use Prim.Native.Nat.{_-_, _<_}
 use native.Mathlib.Omega.{arith}
 use lib.ListN.{length, take}
-use Rattle.log.specs.Log.{Left, atStart, runOf, recordsOf}
+use Rattle.told.specs.Told.{Told}
+use Rattle.offers.specs.Whole.{whole, Left}
+use Rattle.log.specs.Log.{Log}
+use Rattle.log.specs.Pairs.{recordsOf}
+use Rattle.log.specs.Inner.{frontOf}
 use Rattle.log.proofs.Run.{Upto, started-as, live, in-list, next, over}
 use Rattle.log.proofs.Records.{front-length, front-at}
-use Rattle.log.specs.declared.steps.Progress.{Progress}
+use Rattle.log.specs.declared.inner.Progress.{Progress}
 use Rattle.log.proofs.lists.pairs_good.Statement.{statement}
 use Rattle.log.proofs.lists.pairs_good.Tie as tie
 
 abbrev Inv-loop : tie.InvT-loop
 Inv-loop seqs₀ secs₀ from-seqs from-secs n p₀ i₀ seqs secs p i =
-    Upto (runOf (atStart (p₀ .table) seqs₀ secs₀) 0 (recordsOf (take n from-seqs) (take n from-secs))) (recordsOf (take n from-seqs) (take n from-secs)) p seqs secs i × (length seqs ≡ length seqs₀) × (length secs ≡ length secs₀)
+    Upto (frontOf (whole (p₀ .table) seqs₀ secs₀) n from-seqs from-secs) (recordsOf (take n from-seqs) (take n from-secs)) p seqs secs i × (length seqs ≡ length seqs₀) × (length secs ≡ length secs₀)
 
 abbrev μ-loop : tie.MeasureT-loop
 μ-loop seqs₀ secs₀ from-seqs from-secs n p₀ i₀ seqs secs p i = n - i
@@ -34,7 +38,7 @@ pair-at-requires : tie.Need-pair-at-requires Inv-loop μ-loop
 pair-at-requires c κs = let s = c .before .before .before .before .before .before in (omega (arith, few c, s .pre .1), omega (arith, few c, s .pre .2))
 
 step-requires : tie.Need-step-requires Inv-loop μ-loop
-step-requires c κs = let t = c .before .before .before in let l = live (t .before .before .loop .inv .0) (t .if1 .taken) in (l .good, omega (arith, l .counted, few t))
+step-requires c κs = let t = c .before .before .before in let l = live (t .before .before .loop .inv .0) (t .if1 .taken) in (l .good, omega (arith, l .total-is, few t))
 
 add-i : tie.Need-add-i Inv-loop μ-loop
 add-i c = let t = c .before .before .before .before .before .before .before in omega (arith, few t)
@@ -59,7 +63,7 @@ returns c =
     let l = c .before .before .before in
     let table = ap (λ (p : Progress). p .table) (l .before .going .ensures) in
     let e = over (l .loop .inv .0) (c .before .if1 .left) in
-    (rw (← table) (c .finish .ensures ∙ sym (ap (λ (x : Left). x .answer) e)), (rw (← table) (sym (ap (λ (x : Left). x .seqs) e)), rw (← table) (sym (ap (λ (x : Left). x .secs) e))))
+    rw (← table) (c .finish .ensures ∙ sym (ap (λ (x : Left (Told Log)). x .answer) e), sym (ap (λ (x : Left (Told Log)). x .seqs) e), sym (ap (λ (x : Left (Told Log)). x .secs) e))
 
 pub pairs-good-spec : {M : Type 1} → statement M
 pairs-good-spec =

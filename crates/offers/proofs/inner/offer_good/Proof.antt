@@ -6,10 +6,15 @@ use mir.Syntax.{w64}
 use mir.Val.{toZ, ofZ}
 use Rattle.tracker.specs.Domain.{outside}
 use Rattle.tracker.proofs.Good.{Agreed, fine, count-seqs, count-secs, capacity-seqs, capacity-secs}
+use Rattle.offers.specs.Whole.{Table}
 use Rattle.offers.specs.Offer.{tooSoon, lowSeq}
 use Rattle.offers.proofs.Thinned.{thinned-length}
+use Rattle.offers.proofs.Unique.{left-by}
 use Rattle.offers.proofs.inner.offer_good.Statement.{statement}
 use Rattle.offers.proofs.inner.offer_good.Tie as tie
+
+abbrev table-at : (c : tie.Start) → Table
+table-at c = record { state = c .args .table; seqs = c .args .seqs .now; secs = c .args .secs .now }
 
 -- what is known at the places of the walk
 sound : (c : tie.Start) → Agreed (c .args .table) (c .args .seqs .now) (c .args .secs .now)
@@ -35,7 +40,7 @@ returns c =
     let told = c .before .before in
     let start = told .before .before in
     let e : outside (start .args .ts .0) ≡ true = rw (← whole told) (sym (c .before .out-of-domain .ensures) ∙ c .if1 .taken) in
-    (rw (start .pre, e), (refl, refl))
+    left-by (table-at start) (start .args .seq) (start .args .ts) (rw (start .pre, e)) refl refl
 
 too-soon-requires : tie.Need-too-soon-requires
 too-soon-requires c κs =
@@ -50,7 +55,7 @@ returns-2 c =
     let start = told .before .before in
     let a = start .args in
     let e : tooSoon (a .table .«last_recorded_ts») (a .table .«interval_secs») (a .ts .0) ≡ true = rw (← whole told) (sym (c .before .too-soon .ensures) ∙ c .if2 .taken) in
-    (rw (start .pre, inside else1, e), (refl, refl))
+    left-by (table-at start) (start .args .seq) (start .args .ts) (rw (start .pre, inside else1, e)) refl refl
 
 low-seq-requires : tie.Need-low-seq-requires
 low-seq-requires c κs = count-seqs _ _ _ (sound (c .before .before .before .before .before .before .before))
@@ -63,7 +68,7 @@ returns-3 c =
     let else2 = c .before .before .before in
     let else1 = else2 .before .before in
     let start = else1 .before .before .before .before in
-    (rw (start .pre, inside else1, late else2, sym (c .before .low-seq .ensures) ∙ c .if3 .taken), (refl, refl))
+    left-by (table-at start) (start .args .seq) (start .args .ts) (rw (start .pre, inside else1, late else2, sym (c .before .low-seq .ensures) ∙ c .if3 .taken)) refl refl
 
 cast-capacity : tie.Need-cast-capacity
 cast-capacity c = search needs
@@ -100,13 +105,11 @@ returns-4 c =
     let told = else1 .before .before in
     let start = told .before .before in
     let a = start .args in
-    let length-is = thinned-length (a .table .count) (a .seqs .now) (a .seq .0) (count-seqs _ _ _ (sound start)) (a .table .capacity) in (
-      rw (start .pre, inside else1, late else2, rising else3, length-is, ← seqs .seq-keep .ensures .0, c .with-pair .ensures),
-      (
-        seqs .seq-keep .ensures .1,
-        rw (whole told) at (secs .sec-keep .ensures),
-      ),
-    )
+    let length-is = thinned-length (a .table .count) (a .seqs .now) (a .seq .0) (count-seqs _ _ _ (sound start)) (a .table .capacity) in
+    left-by (table-at start) (start .args .seq) (start .args .ts)
+    (rw (start .pre, inside else1, late else2, rising else3, length-is, ← seqs .seq-keep .ensures .0, c .with-pair .ensures))
+    (seqs .seq-keep .ensures .1)
+    (rw (whole told) at (secs .sec-keep .ensures))
 
 pub offer-good-spec : {M : Type 1} → statement M
 offer-good-spec =

@@ -4,6 +4,10 @@ use mathlib.Core.Bool.{false}
 use mir.Facts.{toZ-ofZ, toZ-pos}
 use mir.Syntax.{w64}
 use mir.Val.{toZ, ofZ}
+use Prim.Native.Nat.{_^_}
+use borrow.Author.Tests.{lt-ltb}
+use lib.IntN.{pos}
+use Rattle.signed.specs.Signed.{signed}
 use Rattle.tracker.specs.Domain.{outside}
 use Rattle.tracker.specs.Table.{lastOutside}
 use Rattle.offers.proofs.Difference.{diff-fits}
@@ -24,18 +28,21 @@ sub-passed c =
     let ox : outside x ≡ false = ap lastOutside (sym (c .before .before .last .given .1)) ∙ start .pre .0 in
     rw (r, toZ-ofZ (start .fits .s)) (diff-fits (start .args .s) x (start .pre .1) ox)
 
-cast-result : tie.Need-cast-result
-cast-result c = search needs
+as-signed-requires : tie.Need-as-signed-requires
+as-signed-requires c κs = search needs
 
 returns : tie.Need-returns
 returns c = search needs
 
 returns-2 : tie.Need-returns-2
 returns-2 c =
-    let x = c .before .before .last .given .0 .0 .0 in
-    let start = c .before .before .before .before in
+    let told = c .before in
+    let x = told .before .before .last .given .0 .0 .0 in
+    let start = told .before .before .before .before in
     let r : toZ w64 (ofZ w64 x) ≡ x = search needs in
-    rw (c .before .before .last .given .1, toZ-ofZ (sub-passed c), r, toZ-ofZ (start .fits .s), toZ-pos w64 (start .pre .2))
+    let n = start .args .interval-secs in
+    let small : toZ w64 (ofZ w64 (signed n)) ≡ pos n = rw (lt-ltb n (2 ^ 63) (start .pre .2)) (toZ-pos w64 (start .pre .2)) in
+    rw (told .before .before .last .given .1, c .as-signed .ensures, toZ-ofZ (sub-passed told), r, toZ-ofZ (start .fits .s), small)
 
 pub too-soon-spec : {M : Type 1} → statement M
-too-soon-spec = tie.close (tie.spec enum-told enum-known-last sub-passed cast-result returns returns-2)
+too-soon-spec = tie.close (tie.spec enum-told enum-known-last sub-passed as-signed-requires returns returns-2)

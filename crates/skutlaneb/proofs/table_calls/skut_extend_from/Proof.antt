@@ -11,8 +11,8 @@ table-of-requires-2 c κs = search needs
 extend-from-requires : tie.Need-extend-from-requires
 extend-from-requires c κs = search needs
 
-of-extended-requires : tie.Need-of-extended-requires
-of-extended-requires c κs = search needs
+of-logged-requires : tie.Need-of-logged-requires
+of-logged-requires c κs = search needs
 
 same-length : tie.Need-same-length
 same-length c = search needs
@@ -21,7 +21,11 @@ same-length-2 : tie.Need-same-length-2
 same-length-2 c = search needs
 
 returns : tie.Need-returns
-returns c = (rw (c .of-extended .ensures, c .before .before .before .before .extend-from .ensures .0, c .before .before .before .before .before .before .before .table-of2 .ensures, c .before .before .before .before .before .before .before .before .table-of .ensures), (rw (c .before .before .before .before .extend-from .ensures .1 .0, c .before .before .before .before .before .before .before .table-of2 .ensures, c .before .before .before .before .before .before .before .before .table-of .ensures), rw (c .before .before .before .before .extend-from .ensures .1 .1, c .before .before .before .before .before .before .before .table-of2 .ensures, c .before .before .before .before .before .before .before .before .table-of .ensures)))
+returns c =
+    let logged = c .before .before .before .before .extend-from .ensures in
+    let other = c .before .before .before .before .before .before .before .table-of2 .ensures in
+    let own = c .before .before .before .before .before .before .before .before .table-of .ensures in
+    (rw (c .of-logged .ensures, logged .0, other, own), rw (logged .1, other, own), rw (logged .2, other, own))
 
 pub skut-extend-from-spec : {M : Type 1} → statement M
 skut-extend-from-spec =
@@ -30,7 +34,7 @@ skut-extend-from-spec =
     table-of-requires
     table-of-requires-2
     extend-from-requires
-    of-extended-requires
+    of-logged-requires
     same-length
     same-length-2
     returns)

@@ -19,7 +19,11 @@ same-length-2 : tie.Need-same-length-2
 same-length-2 c = search needs
 
 returns : tie.Need-returns
-returns c = (rw (c .of-offered .ensures, c .before .before .before .before .offer .ensures .0, c .before .before .before .before .before .before .before .table-of .ensures, toZ-ofZ (c .before .before .before .before .before .before .before .before .before .fits .sec)), (rw (c .before .before .before .before .offer .ensures .1 .0, c .before .before .before .before .offer .ensures .0, c .before .before .before .before .before .before .before .table-of .ensures, toZ-ofZ (c .before .before .before .before .before .before .before .before .before .fits .sec)), rw (c .before .before .before .before .offer .ensures .1 .1, c .before .before .before .before .offer .ensures .0, c .before .before .before .before .before .before .before .table-of .ensures, toZ-ofZ (c .before .before .before .before .before .before .before .before .before .fits .sec))))
+returns c =
+    let offered = c .before .before .before .before .offer .ensures in
+    let table = c .before .before .before .before .before .before .before .table-of .ensures in
+    let sec = toZ-ofZ (c .before .before .before .before .before .before .before .before .before .fits .sec) in
+    (rw (c .of-offered .ensures, offered .0, table, sec), rw (offered .1, table, sec), rw (offered .2, table, sec))
 
 pub skut-offer-spec : {M : Type 1} → statement M
 skut-offer-spec =

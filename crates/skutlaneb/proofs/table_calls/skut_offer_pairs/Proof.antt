@@ -18,7 +18,10 @@ same-length-2 : tie.Need-same-length-2
 same-length-2 c = search needs
 
 returns : tie.Need-returns
-returns c = (rw (c .of-logged .ensures, c .before .before .before .before .offer-pairs .ensures .0, c .before .before .before .before .before .before .before .table-of .ensures), (rw (c .before .before .before .before .offer-pairs .ensures .1 .0, c .before .before .before .before .before .before .before .table-of .ensures), rw (c .before .before .before .before .offer-pairs .ensures .1 .1, c .before .before .before .before .before .before .before .table-of .ensures)))
+returns c =
+    let logged = c .before .before .before .before .offer-pairs .ensures in
+    let table = c .before .before .before .before .before .before .before .table-of .ensures in
+    (rw (c .of-logged .ensures, logged .0, table), rw (logged .1, table), rw (logged .2, table))
 
 pub skut-offer-pairs-spec : {M : Type 1} → statement M
 skut-offer-pairs-spec =

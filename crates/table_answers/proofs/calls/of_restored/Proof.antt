@@ -5,8 +5,8 @@ use Rattle.table_answers.proofs.calls.of_restored.Tie as tie
 enum-known-restored : tie.Need-enum-known-restored
 enum-known-restored c = search needs
 
-stands-requires : tie.Need-stands-requires
-stands-requires c κs = search needs
+fresh-requires : tie.Need-fresh-requires
+fresh-requires c κs = search needs
 
 enum-known-restored-2 : tie.Need-enum-known-restored-2
 enum-known-restored-2 c = search needs
@@ -27,7 +27,7 @@ no-table-requires-2 : tie.Need-no-table-requires-2
 no-table-requires-2 c κs = search needs
 
 returns : tie.Need-returns
-returns c = rw (c .stands .ensures, c .before .before .restored .given .1)
+returns c = rw (c .fresh .ensures, c .before .before .restored .given .1)
 
 returns-2 : tie.Need-returns-2
 returns-2 c = rw (c .no-table .ensures, c .before .of-table .ensures, c .before .before .before .restored2 .given .1)
@@ -40,7 +40,7 @@ of-restored-spec =
     tie.close
     (tie.spec
     enum-known-restored
-    stands-requires
+    fresh-requires
     enum-known-restored-2
     of-table-requires
     no-table-requires

@@ -3,14 +3,10 @@ use mir.Facts.{toZ-ofZ}
 use borrow.Author.Needs.{needs}
 use Rattle.table_answers.proofs.states.last_in.Statement.{statement}
 use Rattle.table_answers.proofs.states.last_in.Tie as tie
-use Rattle.table_answers.proofs.states.last_in.Reads as reads
-use Rattle.table_answers.proofs.states.last_in.Lts as lts
 
--- src/states.rt:17:9
 returns : tie.Need-returns
 returns c = rw (eq-eqb _ _ (c .if1 .taken))
 
--- src/states.rt:13:1
 returns-2 : tie.Need-returns-2
 returns-2 c = rw (ne-eqb _ _ (c .if1 .left), toZ-ofZ (c .before .fits .last))
 

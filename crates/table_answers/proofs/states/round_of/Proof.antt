@@ -2,14 +2,10 @@ use borrow.Author.Tests.{eq-eqb, ne-eqb}
 use borrow.Author.Needs.{needs}
 use Rattle.table_answers.proofs.states.round_of.Statement.{statement}
 use Rattle.table_answers.proofs.states.round_of.Tie as tie
-use Rattle.table_answers.proofs.states.round_of.Reads as reads
-use Rattle.table_answers.proofs.states.round_of.Lts as lts
 
--- src/states.rt:38:9
 returns : tie.Need-returns
 returns c = rw (eq-eqb _ _ (c .if1 .taken))
 
--- src/states.rt:34:1
 returns-2 : tie.Need-returns-2
 returns-2 c = rw (ne-eqb _ _ (c .if1 .left))
 

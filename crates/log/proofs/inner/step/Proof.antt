@@ -1,7 +1,7 @@
 use borrow.Author.Needs.{needs}
 use Rattle.log.proofs.Moved.{stepped}
-use Rattle.log.proofs.steps.step.Statement.{statement}
-use Rattle.log.proofs.steps.step.Tie as tie
+use Rattle.log.proofs.inner.step.Statement.{statement}
+use Rattle.log.proofs.inner.step.Tie as tie
 
 offer-good-requires : tie.Need-offer-good-requires
 offer-good-requires c κs = search needs
@@ -9,8 +9,8 @@ offer-good-requires c κs = search needs
 enum-known-grown : tie.Need-enum-known-grown
 enum-known-grown c = search needs
 
-add-going : tie.Need-add-going
-add-going c = search needs
+add-recorded : tie.Need-add-recorded
+add-recorded c = search needs
 
 going-requires : tie.Need-going-requires
 going-requires c κs = search needs
@@ -18,8 +18,8 @@ going-requires c κs = search needs
 enum-told : tie.Need-enum-told
 enum-told c = search needs
 
-add-going-2 : tie.Need-add-going-2
-add-going-2 c = search needs
+add-skipped : tie.Need-add-skipped
+add-skipped c = search needs
 
 going-requires-2 : tie.Need-going-requires-2
 going-requires-2 c κs = search needs
@@ -38,8 +38,8 @@ same-length-2 c = search needs
 
 returns : tie.Need-returns
 returns c =
-    let o = c .before .before .before .before .before .before .before .before .offer-good in
-    stepped (c .before .before .before .before .before .before .before .before .before .before .before .before .before .args .p) _ _ _ _ _ _ _ _ (c .going .ensures) (c .before .before .before .grown .given .1) (o .ensures .0) (o .ensures .1 .0) (o .ensures .1 .1)
+    let offered = c .before .before .before .before .before .before .before .before in
+    stepped (offered .before .before .before .before .before .before .args .p) _ _ _ _ _ _ _ _ (c .going .ensures) (c .before .before .before .grown .given .1) (offered .offer-good .ensures)
 
 same-length-3 : tie.Need-same-length-3
 same-length-3 c = search needs
@@ -49,8 +49,8 @@ same-length-4 c = search needs
 
 returns-2 : tie.Need-returns-2
 returns-2 c =
-    let o = c .before .before .before .before .before .before .before .offer-good in
-    stepped (c .before .before .before .before .before .before .before .before .before .before .before .before .args .p) _ _ _ _ _ _ _ _ (c .going2 .ensures) (c .before .before .enum-told .given .1) (o .ensures .0) (o .ensures .1 .0) (o .ensures .1 .1)
+    let offered = c .before .before .before .before .before .before .before in
+    stepped (offered .before .before .before .before .before .before .args .p) _ _ _ _ _ _ _ _ (c .going2 .ensures) (c .before .before .enum-told .given .1) (offered .offer-good .ensures)
 
 same-length-5 : tie.Need-same-length-5
 same-length-5 c = search needs
@@ -60,8 +60,8 @@ same-length-6 c = search needs
 
 returns-3 : tie.Need-returns-3
 returns-3 c =
-    let o = c .before .before .before .before .before .before .before .offer-good in
-    stepped (c .before .before .before .before .before .before .before .before .before .before .before .before .args .p) _ _ _ _ _ _ _ _ (c .stopped .ensures) (c .before .before .why .given .1) (o .ensures .0) (o .ensures .1 .0) (o .ensures .1 .1)
+    let offered = c .before .before .before .before .before .before .before in
+    stepped (offered .before .before .before .before .before .before .args .p) _ _ _ _ _ _ _ _ (c .stopped .ensures) (c .before .before .why .given .1) (offered .offer-good .ensures)
 
 pub step-spec : {M : Type 1} → statement M
 step-spec =
@@ -69,10 +69,10 @@ step-spec =
     (tie.spec
     offer-good-requires
     enum-known-grown
-    add-going
+    add-recorded
     going-requires
     enum-told
-    add-going-2
+    add-skipped
     going-requires-2
     enum-known-why
     stopped-requires

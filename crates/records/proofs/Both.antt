@@ -30,7 +30,7 @@ use denote.Steps.{peeks, heard}
 use contract.Monad.{fact}
 use denote.Triple.Statement.{Contract, Triple}
 use denote.Triple.Call.{calls-at}
-use Rattle.log.proofs.Again.{LentAgain, lends-again, comes-back}
+use Rattle.records.proofs.Again.{LentAgain, lends-again, comes-back}
 
 module _ (b₀ o₀ b₁ o₁ : ℕ) where
   abbrev pub X : GName → List ℕ → RefT (List ℕ)

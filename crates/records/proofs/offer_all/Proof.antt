@@ -1,4 +1,4 @@
--- `log::offer_all` meets its contract: a walk of its MIR, by hand, with a loop over a lent slice of structs, and in each turn a call of `step`, to which the two `&mut` slices are lent (`Both.antt`).
+-- `records::offer_all` meets its contract: a walk of its MIR, by hand, with a loop over a lent slice of structs, and in each turn a call of `step`, to which the two `&mut` slices are lent (`Both.antt`).
 --     Turn     what the loop's invariant is indexed by: how many records are done, the progress and the two lists so far, and the facts of them
 --     turns    a turn: the record at i is read, `step` is called, i goes up; or the loop is left and the rest of the body runs
 --     looped   the loop and the rest of the body.        walk     the MIR up to the loop
@@ -27,7 +27,7 @@ use ghost.Atoms.{Atoms, sem}
 use contract.Monad.{Fun, fact}
 use contract.Running.{givenOf, tables, tablesOf}
 use types.Kit.{Given, Item, ‵, raw, _⊛_, ⋆, some, later, runs, anyQ, atRet, Sq, _$_, _∵_, !, qed, by, move, drop, use0, use1, split, join, pick, rewrite, fsplit, fjoin, suffices, frame, await, done}
-use types.Part.{agg, whole, sub, look-in}
+use types.Part.{agg, whole as here, sub, look-in}
 use types.Run.{look, look-raw, store, init, forget, stop, hop, fld, from, load, lit, addr, of-opd, bin, and-then, no-more, assigns, assigns-last, land, first, skips, jumps, blocks, branches, returns, enter, alloc1, alloc0, params1, pass1, pass0, free1, free0, exec, Below, again, loops}
 use sound.WpLaws.{fmOf, WpFn-mono}
 use denote.RattleType.{owns}
@@ -47,42 +47,43 @@ use denote.Triple.Clauses.{ensured, lasts}
 use denote.Triple.Entry.{Vals, onEntry}
 use denote.Triple.Spec.{Meets, tripleOf}
 use denote.Triple.Table.{entered, cited}
-use denote.Triple.Walked.{Stays, stay-slice, stay-dropped, walkOf, goes-slice, goes-dropped, Walks, ends-at, walked, walk-meets}
+use denote.Triple.Walked.{Stays, stay-slice, stay-dropped, walkOf, goes-slice, goes-dropped, Walks, ends-at, walked, walk-meets, says}
 use denote.Exit.{yes}
 use Rattle.told.specs.Told.{Told, gave}
 use Rattle.tracker.specs.Table.{checkOf}
 use Rattle.tracker.specs.declared.TrackedSeq.{TrackedSeq}
 use Rattle.tracker.specs.declared.SequenceTracker.{SequenceTracker}
-use Rattle.log.specs.Log.{Log, Left, toldLog, runOf, logOf}
-use Rattle.log.specs.Progress.{toldProgress, leftBy, standing, endOf}
+use Rattle.offers.specs.Whole.{whole, Left}
+use Rattle.log.specs.Log.{Log, toldLog, logOf}
+use Rattle.log.specs.Inner.{total, toldProgress, Begins, Steps}
 use Rattle.log.specs.declared.Logged.{Logged}
-use Rattle.log.specs.declared.steps.Progress.{Progress}
+use Rattle.log.specs.declared.inner.Progress.{Progress}
 use Rattle.log.proofs.Run.{noRecord, Upto, begun, live, in-list, next, over}
-use Rattle.log.proofs.Both.{OwnX, OwnZ, calls-both}
-use Rattle.log.proofs.Calls.{lowR, lowP, lowS, Bgn, Stp, begin-callee, step-callee, says3}
+use Rattle.records.proofs.Both.{OwnX, OwnZ, calls-both}
+use Rattle.records.proofs.Calls.{lowR, lowP, lowS, Bgn, Stp, begin-callee, step-callee}
 use Rattle.tracker.proofs.TrackedSeq as T
 use Rattle.tracker.proofs.TrackedSeq.Laws as T′
 use Rattle.tracker.proofs.SequenceTracker as S
 use Rattle.tracker.proofs.SequenceTracker.Laws as S′
 use Rattle.log.proofs.Logged as E
 use Rattle.log.proofs.Logged.Laws as E′
-use Rattle.log.proofs.steps.Progress as P
-use Rattle.log.proofs.steps.Progress.Laws as P′
-use Rattle.log.proofs.steps.begin.Symbol as bgn-def
-use Rattle.log.proofs.steps.begin.Symbol.{name as #log·begin}
-use Rattle.log.proofs.steps.begin.Met as bgn-thm
-use Rattle.log.proofs.steps.finish as fin
-use Rattle.log.proofs.steps.finish.Symbol as fin-def
-use Rattle.log.proofs.steps.finish.Symbol.{name as #log·finish}
-use Rattle.log.proofs.steps.finish.Met as fin-thm
-use Rattle.log.proofs.steps.step.Symbol as stp-def
-use Rattle.log.proofs.steps.step.Symbol.{name as #log·step}
-use Rattle.log.proofs.steps.step.Met as stp-thm
-use Rattle.log.proofs.offer_all.Key.{name as #log·offer-all}
-use Rattle.log.proofs.offer_all as offer-all
-use Rattle.log.proofs.offer_all.Statement as stated
-use Rattle.log.proofs.offer_all.Code as code
-use Rattle.log.proofs.offer_all.Code.Mir as mirs
+use Rattle.log.proofs.inner.Progress as P
+use Rattle.log.proofs.inner.Progress.Laws as P′
+use Rattle.log.proofs.inner.begin.Symbol as bgn-def
+use Rattle.log.proofs.inner.begin.Symbol.{name as #log·begin}
+use Rattle.log.proofs.inner.begin.Met as bgn-thm
+use Rattle.log.proofs.inner.finish as fin
+use Rattle.log.proofs.inner.finish.Symbol as fin-def
+use Rattle.log.proofs.inner.finish.Symbol.{name as #log·finish}
+use Rattle.log.proofs.inner.finish.Met as fin-thm
+use Rattle.log.proofs.inner.step.Symbol as stp-def
+use Rattle.log.proofs.inner.step.Symbol.{name as #log·step}
+use Rattle.log.proofs.inner.step.Met as stp-thm
+use Rattle.records.proofs.offer_all.Key.{name as #log·offer-all}
+use Rattle.records.proofs.offer_all as offer-all
+use Rattle.records.proofs.offer_all.Statement as stated
+use Rattle.records.proofs.offer_all.Code as code
+use Rattle.records.proofs.offer_all.Code.Mir as mirs
 
 abbrev stayed : Stays (offer-all.ended .signature .params) (offer-all.ended .kept)
 stayed = (stay-dropped (plain (λ _. S.the-row)) yes, (stay-slice (0 ∷ []) tt (plain (λ _. u64)), (stay-slice (1 ∷ []) tt (plain (λ _. i64)), (stay-dropped (shrSliceOf (2 ∷ []) tt (plain (λ _. T.the-row))) yes, tt))))
@@ -157,12 +158,12 @@ module _ {M : Type 1} (𝓤 : URA M) (H : Heap 𝓤) (A : Atoms 𝓤) (W : Given
   abbrev Own : Fml
   Own = ShrSlice (named 2) κ₂ T.the-row .own s (v ∷ [])
 
-  exits : (r : Logged) (u : Val) (xs : List ℕ) (zs : List ℤ) → length xs ≡ length xs₀ → length zs ≡ length zs₀ → logOf st xs₀ zs₀ ys ≡ record { answer = toldLog r; seqs = xs; secs = zs }
+  exits : (r : Logged) (u : Val) (xs : List ℕ) (zs : List ℤ) → length xs ≡ length xs₀ → length zs ≡ length zs₀ → logOf (whole st xs₀ zs₀) ys ≡ record { answer = toldLog r; seqs = xs; secs = zs }
       → ent 𝓤 (⋆ 𝓤 H A (‵ (E.the-row .own r (u ∷ [])) ∷ ‵ (Seqs xs) ∷ ‵ (Secs zs) ∷ ‵ (flft κ₀ q₀) ∷ ‵ (flft κ₁ q₁) ∷ ‵ (flft κ₂ q₂) ∷ ‵ Own ∷ [])) (Post u)
   exits r u xs zs lX lZ e =
       qed W (‵ (E.the-row .own r (u ∷ [])) ∷ ‵ (Seqs xs) ∷ ‵ (Secs zs) ∷ ‵ (flft κ₀ q₀) ∷ ‵ (flft κ₁ q₁) ∷ ‵ (flft κ₂ q₂) ∷ ‵ Own ∷ []) ∵
       suffices ! _ (ends-at 𝓤 H A offer-all.ended stayed (offer-all.clauses 𝓤 H A mem run) W y u r (tt, (xs, (zs, (tt, tt)))) (tt, (lX, (lZ, (tt, tt))))) $
-      says3 ! (sym (ap (λ (x : Left). x .answer) e)) (sym (ap (λ (x : Left). x .seqs) e)) (sym (ap (λ (x : Left). x .secs) e)) $
+      says ! (sym (ap (λ (x : Left (Told Log)). x .answer) e), sym (ap (λ (x : Left (Told Log)). x .seqs) e), sym (ap (λ (x : Left (Told Log)). x .secs) e)) $
       nothing ! $ move ! (6 ∷ 0 ∷ []) $ join ! $ move ! (5 ∷ 0 ∷ []) $ join ! $ move ! (4 ∷ 0 ∷ []) $ join ! $ frame ! $
       -- [the result; seqs; secs; records]
       rewrite ! 1 (λ (m : ℕ). ‵ (MutSlice (named 0) κ₀ u64 .own (record { ptr = (b₀, o₀); name = γ₀; now = xs }) (sliceVal (b₀, o₀) m ∷ []))) lX refl $
@@ -178,7 +179,7 @@ module _ {M : Type 1} (𝓤 : URA M) (H : Heap 𝓤) (A : Atoms 𝓤) (W : Given
     is : Is P.the-row t (lowP t)
     lX : length xs ≡ length xs₀
     lZ : length zs ≡ length zs₀
-    upto : Upto (logOf st xs₀ zs₀ ys) ys t xs zs i
+    upto : Upto (logOf (whole st xs₀ zs₀) ys) ys t xs zs i
 
   abbrev Nearer : Turn → Turn → Type 0
   Nearer x y = n - x .i < n - y .i
@@ -252,11 +253,11 @@ module _ {M : Type 1} (𝓤 : URA M) (H : Heap 𝓤) (A : Atoms 𝓤) (W : Given
         more : x .i + 1 < 2 ^ 64
         more = lt-of-le-of-lt (add-one-le lt) (p .0 .1 .0)
 
-        asked : (checkOf (x .t .table) (x .xs) (x .zs) ≡ gave tt) × (x .t .recorded + x .t .skipped + 1 < 2 ^ 64)
-        asked = let a = live (x .upto) below in (a .good, few-enough (x .t .recorded + x .t .skipped) (x .i) n (a .counted) lt (p .0 .1 .0))
+        asked : (checkOf (x .t .table) (x .xs) (x .zs) ≡ gave tt) × (total (x .t .tally) + 1 < 2 ^ 64)
+        asked = let a = live (x .upto) below in (a .good, few-enough (total (x .t .tally)) (x .i) n (a .total-is) lt (p .0 .1 .0))
 
         later-turn : (u : Val) (t : Progress) (xs : List ℕ) (zs : List ℤ) → Is P.the-row t (u ∷ []) → length xs ≡ length (x .xs) → length zs ≡ length (x .zs)
-            → (leftBy t xs zs ≡ runOf (standing (x .t) (x .xs) (x .zs)) (x .t .recorded + x .t .skipped) (elem ∷ [])) × (t .end ≡ endOf (t .phase) (x .t .end)) → Turn
+            → Steps (x .t) (x .xs) (x .zs) elem t xs zs → Turn
         later-turn u t xs zs is lX lZ e = record {
           i = x .i + 1;
           t = t;
@@ -271,15 +272,15 @@ module _ {M : Type 1} (𝓤 : URA M) (H : Heap 𝓤) (A : Atoms 𝓤) (W : Given
     turns : (x : Turn) → Sq W (At x) (runs C Λ En mirs.turn-1 (anyQ (Turned x)))
     unfolding afterTurn later-turn
     turns x =
-        assigns ! (bin ! (load ! (from ! (stop !)) (look ! 32 refl)) (load ! (from ! (fld ! refl (stop !))) (look-in ! 34 (sub ! 4 refl (whole !)))) tt) (from ! (stop !)) (init ! 20 refl (tt, tt)) $
+        assigns ! (bin ! (load ! (from ! (stop !)) (look ! 32 refl)) (load ! (from ! (fld ! refl (stop !))) (look-in ! 34 (sub ! 3 refl (here !)))) tt) (from ! (stop !)) (init ! 20 refl (tt, tt)) $
         first ! $ branches ! (load ! (from ! (stop !)) (look ! 20 refl))
         (λ less. skips ! $ exec ! C Λ En (after (after mirs.turn-1)) (anyQ (Turned x)) $
-        assigns ! (addr ! (from ! (fld ! refl (hop ! (look-in ! 40 (sub ! 0 refl (whole !))) (stop !))))) (from ! (stop !)) (init ! 18 refl (tt, tt)) $
-        assigns ! (agg ! (and-then ! (load ! (from ! (stop !)) (look ! 18 refl)) (and-then ! (load ! (from ! (fld ! refl (stop !))) (look-in ! 40 (sub ! 1 refl (whole !)))) (no-more !)))) (from ! (stop !)) (init ! 16 refl (tt, (tt, (record { fits = rX x .0 }, tt)))) $
-        assigns ! (addr ! (from ! (fld ! refl (hop ! (look-in ! 38 (sub ! 0 refl (whole !))) (stop !))))) (from ! (stop !)) (init ! 14 refl (tt, tt)) $
-        assigns ! (agg ! (and-then ! (load ! (from ! (stop !)) (look ! 14 refl)) (and-then ! (load ! (from ! (fld ! refl (stop !))) (look-in ! 38 (sub ! 1 refl (whole !)))) (no-more !)))) (from ! (stop !)) (init ! 12 refl (tt, (tt, (record { fits = rZ x .0 }, tt)))) $
+        assigns ! (addr ! (from ! (fld ! refl (hop ! (look-in ! 40 (sub ! 0 refl (here !))) (stop !))))) (from ! (stop !)) (init ! 18 refl (tt, tt)) $
+        assigns ! (agg ! (and-then ! (load ! (from ! (stop !)) (look ! 18 refl)) (and-then ! (load ! (from ! (fld ! refl (stop !))) (look-in ! 40 (sub ! 1 refl (here !)))) (no-more !)))) (from ! (stop !)) (init ! 16 refl (tt, (tt, (record { fits = rX x .0 }, tt)))) $
+        assigns ! (addr ! (from ! (fld ! refl (hop ! (look-in ! 38 (sub ! 0 refl (here !))) (stop !))))) (from ! (stop !)) (init ! 14 refl (tt, tt)) $
+        assigns ! (agg ! (and-then ! (load ! (from ! (stop !)) (look ! 14 refl)) (and-then ! (load ! (from ! (fld ! refl (stop !))) (look-in ! 38 (sub ! 1 refl (here !)))) (no-more !)))) (from ! (stop !)) (init ! 12 refl (tt, (tt, (record { fits = rZ x .0 }, tt)))) $
         assigns ! (bin ! (load ! (from ! (stop !)) (look ! 32 refl)) (lit ! tt) (record { fits = off x less })) (from ! (stop !)) (init ! 10 refl (tt, record { fits = off x less })) $
-        assigns ! (bin ! (load ! (from ! (fld ! refl (stop !))) (look-in ! 36 (sub ! 0 refl (whole !)))) (load ! (from ! (stop !)) (look ! 10 refl)) tt) (from ! (stop !)) (init ! 8 refl (tt, tt)) $
+        assigns ! (bin ! (load ! (from ! (fld ! refl (stop !))) (look-in ! 36 (sub ! 0 refl (here !)))) (load ! (from ! (stop !)) (look ! 10 refl)) tt) (from ! (stop !)) (init ! 8 refl (tt, tt)) $
         rewrite ! 8 (λ (p′ : ℕ). ‵ (fat fullShare tyPtr l₁₈ 0 (vptr b p′))) (sym (place-is 16 o (x .i))) refl $
         -- the record is read
         move ! (5 ∷ []) $ use1 W (‵ Own ⊛ ‵ Own) (shr-slice-copy 𝓤 H A W (named 2) κ₂ T.the-row .twice s (v ∷ [])) $ split ! $ fsplit ! $ drop ! $ fsplit ! $ drop ! $ move ! (0 ∷ 6 ∷ []) $
@@ -315,7 +316,7 @@ module _ {M : Type 1} (𝓤 : URA M) (H : Heap 𝓤) (A : Atoms 𝓤) (W : Given
     looped : (x : Turn) → Sq W (At x) (runs C Λ En mirs.t-8 (atRet En Post))
     looped x = first ! $ blocks ! $ loops ! 𝓣 Nearer Nearer-wf At turns x
 
-  abbrev first-turn : (u : Val) (t : Progress) (xs : List ℕ) (zs : List ℤ) → Is P.the-row t (u ∷ []) → length xs ≡ length xs₀ → length zs ≡ length zs₀ → (leftBy t xs zs ≡ logOf st xs₀ zs₀ []) × (t .end ≡ endOf (t .phase) n) → Turn
+  abbrev first-turn : (u : Val) (t : Progress) (xs : List ℕ) (zs : List ℤ) → Is P.the-row t (u ∷ []) → length xs ≡ length xs₀ → length zs ≡ length zs₀ → Begins (whole st xs₀ zs₀) n t xs zs → Turn
   first-turn u t xs zs is lX lZ e = record {
     i = 0;
     t = t;
@@ -324,7 +325,7 @@ module _ {M : Type 1} (𝓤 : URA M) (H : Heap 𝓤) (A : Atoms 𝓤) (W : Given
     is = subst (Is P.the-row t) (P′.lowers .val-is t (u ∷ []) is) is;
     lX = lX;
     lZ = lZ;
-    upto = begun st xs₀ zs₀ ys t xs zs e;
+    upto = begun (whole st xs₀ zs₀) ys t xs zs e;
   }
 
   walk : (𝓣 : Tables 𝓤 H) → Triple 𝓤 (𝓣 .C #log·begin) (Bgn 𝓤 H A mem run) → Triple 𝓤 (𝓣 .C #log·finish) (Fin 𝓤 H A mem run) → Triple 𝓤 (𝓣 .C #log·step) (Stp 𝓤 H A mem run)
@@ -341,11 +342,11 @@ module _ {M : Type 1} (𝓤 : URA M) (H : Heap 𝓤) (A : Atoms 𝓤) (W : Given
       move ! (43 ∷ []) $ split ! $ move ! (1 ∷ []) $ split ! $ move ! (1 ∷ []) $ split ! $ move ! (1 ∷ []) $ drop ! $
       -- [κ₂; κ₁; κ₀; records; secs; seqs; _19; …]
       move ! (5 ∷ 4 ∷ 2 ∷ 1 ∷ 0 ∷ 3 ∷ []) $
-      assigns ! (addr ! (from ! (fld ! refl (hop ! (look-in ! 40 (sub ! 0 refl (whole !))) (stop !))))) (from ! (stop !)) (init ! 30 refl (tt, tt)) $
-      assigns ! (agg ! (and-then ! (load ! (from ! (stop !)) (look ! 30 refl)) (and-then ! (load ! (from ! (fld ! refl (stop !))) (look-in ! 40 (sub ! 1 refl (whole !)))) (no-more !)))) (from ! (stop !)) (init ! 28 refl (tt, (tt, (record { fits = roomX .0 }, tt)))) $
-      assigns ! (addr ! (from ! (fld ! refl (hop ! (look-in ! 38 (sub ! 0 refl (whole !))) (stop !))))) (from ! (stop !)) (init ! 26 refl (tt, tt)) $
-      assigns ! (agg ! (and-then ! (load ! (from ! (stop !)) (look ! 26 refl)) (and-then ! (load ! (from ! (fld ! refl (stop !))) (look-in ! 38 (sub ! 1 refl (whole !)))) (no-more !)))) (from ! (stop !)) (init ! 24 refl (tt, (tt, (record { fits = roomZ .0 }, tt)))) $
-      assigns ! (of-opd ! (load ! (from ! (fld ! refl (stop !))) (look-in ! 36 (sub ! 1 refl (whole !))))) (from ! (stop !)) (init ! 22 refl (tt, record { fits = p .0 .1 .0 })) $
+      assigns ! (addr ! (from ! (fld ! refl (hop ! (look-in ! 40 (sub ! 0 refl (here !))) (stop !))))) (from ! (stop !)) (init ! 30 refl (tt, tt)) $
+      assigns ! (agg ! (and-then ! (load ! (from ! (stop !)) (look ! 30 refl)) (and-then ! (load ! (from ! (fld ! refl (stop !))) (look-in ! 40 (sub ! 1 refl (here !)))) (no-more !)))) (from ! (stop !)) (init ! 28 refl (tt, (tt, (record { fits = roomX .0 }, tt)))) $
+      assigns ! (addr ! (from ! (fld ! refl (hop ! (look-in ! 38 (sub ! 0 refl (here !))) (stop !))))) (from ! (stop !)) (init ! 26 refl (tt, tt)) $
+      assigns ! (agg ! (and-then ! (load ! (from ! (stop !)) (look ! 26 refl)) (and-then ! (load ! (from ! (fld ! refl (stop !))) (look-in ! 38 (sub ! 1 refl (here !)))) (no-more !)))) (from ! (stop !)) (init ! 24 refl (tt, (tt, (record { fits = roomZ .0 }, tt)))) $
+      assigns ! (of-opd ! (load ! (from ! (fld ! refl (stop !))) (look-in ! 36 (sub ! 1 refl (here !))))) (from ! (stop !)) (init ! 22 refl (tt, record { fits = p .0 .1 .0 })) $
       calls-both b₀ o₀ b₁ o₁ κ₀ κ₁ q₀ q₁ γ₀ γ₁ 𝓤 H A W (begin-callee b₀ o₀ b₁ o₁ 𝓤 H A W mem run xs₀ zs₀ st n ist (p .0 .1 .0)) (𝓣 .C) (fmOf 𝓤 H (W .laws) 𝓣) known-begin roomX roomZ
       (λ ν₀ ν₁ δ₀ δ₁. and-then ! (load ! (from ! (stop !)) (look ! 27 refl)) (and-then ! (load ! (from ! (stop !)) (look ! 23 refl)) (and-then ! (load ! (from ! (stop !)) (look ! 41 refl)) (and-then ! (load ! (from ! (stop !)) (look ! 21 refl)) (no-more !)))))
       (λ u t xs zs is lX lZ e. land ! (from ! (stop !)) (init ! 34 refl (LL.lawful P.the-type P′.the-laws 𝓤 H A W .typed t (u ∷ []) is .0)) $
@@ -374,6 +375,6 @@ offer-all-spec 𝓤 H 𝓜 𝓖 𝓡 =
     entered 𝓤 H (tripleOf 𝓤 H (𝓖 .A) offer-all.signature (offer-all.spec 𝓤 H (𝓖 .A) (𝓜 .mem) (𝓡 .run)))
     (tables 𝓤 H 𝓜 𝓡 code.env .C) (tables 𝓤 H 𝓜 𝓡 code.env .Λ) #log·offer-all code.function (code.unfolded 𝓤 H 𝓜 𝓡)
     (offer-all-meets 𝓤 H (𝓖 .A) (givenOf 𝓤 H 𝓜 𝓖) (𝓜 .mem) (𝓡 .run) (tablesOf 𝓤 H 𝓜 (tables 𝓤 H 𝓜 𝓡 code.env))
-    (cited 𝓤 H (Bgn 𝓤 H (𝓖 .A) (𝓜 .mem) (𝓡 .run)) 𝓜 𝓡 code.env #log·begin bgn-def.routine code.calls-log·steps·begin (bgn-thm.met 𝓤 H 𝓜 𝓖 𝓡))
-    (cited 𝓤 H (Fin 𝓤 H (𝓖 .A) (𝓜 .mem) (𝓡 .run)) 𝓜 𝓡 code.env #log·finish fin-def.routine code.calls-log·steps·finish (fin-thm.met 𝓤 H 𝓜 𝓖 𝓡))
-    (cited 𝓤 H (Stp 𝓤 H (𝓖 .A) (𝓜 .mem) (𝓡 .run)) 𝓜 𝓡 code.env #log·step stp-def.routine code.calls-log·steps·step (stp-thm.met 𝓤 H 𝓜 𝓖 𝓡)))
+    (cited 𝓤 H (Bgn 𝓤 H (𝓖 .A) (𝓜 .mem) (𝓡 .run)) 𝓜 𝓡 code.env #log·begin bgn-def.routine code.calls-log·inner·begin (bgn-thm.met 𝓤 H 𝓜 𝓖 𝓡))
+    (cited 𝓤 H (Fin 𝓤 H (𝓖 .A) (𝓜 .mem) (𝓡 .run)) 𝓜 𝓡 code.env #log·finish fin-def.routine code.calls-log·inner·finish (fin-thm.met 𝓤 H 𝓜 𝓖 𝓡))
+    (cited 𝓤 H (Stp 𝓤 H (𝓖 .A) (𝓜 .mem) (𝓡 .run)) 𝓜 𝓡 code.env #log·step stp-def.routine code.calls-log·inner·step (stp-thm.met 𝓤 H 𝓜 𝓖 𝓡)))

@@ -30,18 +30,18 @@ use Rattle.told.specs.Told.{gave}
 use Rattle.tracker.specs.Table.{checkOf}
 use Rattle.tracker.specs.declared.TrackedSeq.{TrackedSeq}
 use Rattle.tracker.specs.declared.SequenceTracker.{SequenceTracker}
-use Rattle.log.specs.Log.{runOf, logOf}
-use Rattle.log.specs.Progress.{leftBy, standing, endOf}
-use Rattle.log.specs.declared.steps.Progress.{Progress}
-use Rattle.log.proofs.Both.{X, Z, LentX, LentZ, Callee, gives-back}
+use Rattle.offers.specs.Whole.{whole}
+use Rattle.log.specs.Inner.{total, Begins, Steps}
+use Rattle.log.specs.declared.inner.Progress.{Progress}
+use Rattle.records.proofs.Both.{X, Z, LentX, LentZ, Callee, gives-back}
 use Rattle.tracker.proofs.TrackedSeq as T
 use Rattle.tracker.proofs.TrackedSeq.Laws as T′
 use Rattle.tracker.proofs.SequenceTracker as S
 use Rattle.tracker.proofs.SequenceTracker.Laws as S′
-use Rattle.log.proofs.steps.Progress as P
-use Rattle.log.proofs.steps.Progress.Laws as P′
-use Rattle.log.proofs.steps.begin as bgn
-use Rattle.log.proofs.steps.step as stp
+use Rattle.log.proofs.inner.Progress as P
+use Rattle.log.proofs.inner.Progress.Laws as P′
+use Rattle.log.proofs.inner.begin as bgn
+use Rattle.log.proofs.inner.step as stp
 
 abbrev pub lowR : TrackedSeq → List Val
 lowR d = T′.lowered d ∷ []
@@ -60,23 +60,10 @@ module _ {M : Type 1} (𝓤 : URA M) (H : Heap 𝓤) (A : Atoms 𝓤) (mem : Mem
   abbrev pub Stp : Contract 𝓤
   Stp = tripleOf 𝓤 H A stp.signature (stp.spec 𝓤 H A mem run)
 
--- a goal P ∗ ⌜a⌝ ∗ ⌜b⌝ ∗ ⌜c⌝, of three clauses: they are shown, and P is left
-pub says3 : {M : Type 1} {𝓤 : URA M} {H : Heap 𝓤} {A : Atoms 𝓤} {K : Type 0} {W : Given 𝓤 H A} {Γ : List (Item 𝓤)} → K → {φ ψ χ : Type 0} {P : SProp 𝓤} → φ → ψ → χ
-    → Step K W Γ (prop P) Γ (prop (sep 𝓤 P (sep 𝓤 (fact 𝓤 φ) (sep 𝓤 (fact 𝓤 ψ) (fact 𝓤 χ)))))
-says3 {𝓤 = 𝓤} t {φ} {ψ} {χ} {P} x y z =
-    let F : SProp 𝓤 = sep 𝓤 (fact 𝓤 φ) (sep 𝓤 (fact 𝓤 ψ) (fact 𝓤 χ)) in
-    let f : ent 𝓤 (emp 𝓤) F = together (fact 𝓤 φ) (sep 𝓤 (fact 𝓤 ψ) (fact 𝓤 χ)) (factI 𝓤 φ (emp 𝓤) x) (together (fact 𝓤 ψ) (fact 𝓤 χ) (factI 𝓤 ψ (emp 𝓤) y) (factI 𝓤 χ (emp 𝓤) z)) in
-    step (λ s. record { prf = via 𝓤 P (s .prf) (via 𝓤 (sep 𝓤 (emp 𝓤) P) (emp∗ 𝓤 P) (via 𝓤 (sep 𝓤 F P) (monoL 𝓤 P f) (comm∗ 𝓤 F P))) })
-  where
-    together : (Q R : SProp 𝓤) → ent 𝓤 (emp 𝓤) Q → ent 𝓤 (emp 𝓤) R → ent 𝓤 (emp 𝓤) (sep 𝓤 Q R)
-    together Q R q r =
-        via 𝓤 (sep 𝓤 (emp 𝓤) (emp 𝓤)) (emp∗ 𝓤 (emp 𝓤)) (via 𝓤 (sep 𝓤 Q (emp 𝓤)) (monoL 𝓤 (emp 𝓤) q) (via 𝓤 (sep 𝓤 (emp 𝓤) Q) (comm∗ 𝓤 Q (emp 𝓤))
-        (via 𝓤 (sep 𝓤 R Q) (monoL 𝓤 Q r) (comm∗ 𝓤 R Q))))
-
 module _ (b₀ o₀ b₁ o₁ : ℕ) {M : Type 1} (𝓤 : URA M) (H : Heap 𝓤) (A : Atoms 𝓤) (W : Given 𝓤 H A) (mem : Memory → SProp 𝓤) (run : Routine → Fun 𝓤) (xs : List ℕ) (zs : List ℤ) where
-  module _ (p : Progress) (r : TrackedSeq) (isp : Is P.the-row p (lowP p)) (isr : Is T.the-row r (lowR r)) (asked : (checkOf (p .table) xs zs ≡ gave tt) × (p .recorded + p .skipped + 1 < 2 ^ 64)) where
+  module _ (p : Progress) (r : TrackedSeq) (isp : Is P.the-row p (lowP p)) (isr : Is T.the-row r (lowR r)) (asked : (checkOf (p .table) xs zs ≡ gave tt) × (total (p .tally) + 1 < 2 ^ 64)) where
     abbrev φ-step : Progress → List ℕ → List ℤ → Type 0
-    φ-step t xs′ zs′ = (leftBy t xs′ zs′ ≡ runOf (standing p xs zs) (p .recorded + p .skipped) (r ∷ [])) × (t .end ≡ endOf (t .phase) (p .end))
+    φ-step t xs′ zs′ = Steps p xs zs r t xs′ zs′
 
     abbrev a-step : GName → GName → RefT (List ℕ) × (RefT (List ℤ) × (Progress × (TrackedSeq × Unit {0})))
     a-step δ₀ δ₁ = (X b₀ o₀ b₁ o₁ δ₀ xs, (Z b₀ o₀ b₁ o₁ δ₁ zs, (p, (r, tt))))
@@ -97,7 +84,7 @@ module _ (b₀ o₀ b₁ o₁ : ℕ) {M : Type 1} (𝓤 : URA M) (H : Heap 𝓤)
 
   module _ (st : SequenceTracker) (n : ℕ) (ist : Is S.the-row st (lowS st)) (n-fits : n < 2 ^ 64) where
     abbrev φ-begin : Progress → List ℕ → List ℤ → Type 0
-    φ-begin t xs′ zs′ = (leftBy t xs′ zs′ ≡ logOf st xs zs []) × (t .end ≡ endOf (t .phase) n)
+    φ-begin t xs′ zs′ = Begins (whole st xs zs) n t xs′ zs′
 
     abbrev to-begin : ℕ → ℕ → GName → GName → Bgn 𝓤 H A mem run .Ghost
     to-begin ν₀ ν₁ δ₀ δ₁ = (((ν₀ ∷ [], (ν₁ ∷ [], tt)), (fullShare, (fullShare, tt)), tt, (X b₀ o₀ b₁ o₁ δ₀ xs, (Z b₀ o₀ b₁ o₁ δ₁ zs, (st, (n, tt)))), (sliceVal (b₀, o₀) (length xs) ∷ [], (sliceVal (b₁, o₁) (length zs) ∷ [], (lowS st, (vint w64 n ∷ [], tt))))), tt)

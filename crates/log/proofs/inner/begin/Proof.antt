@@ -1,8 +1,8 @@
 use borrow.Author.Needs.{needs}
 use mathlib.Core.Path.{refl}
 use Rattle.log.specs.Log.{runOf}
-use Rattle.log.proofs.steps.begin.Statement.{statement}
-use Rattle.log.proofs.steps.begin.Tie as tie
+use Rattle.log.proofs.inner.begin.Statement.{statement}
+use Rattle.log.proofs.inner.begin.Tie as tie
 
 check-requires : tie.Need-check-requires
 check-requires c κs = search needs

@@ -1,6 +1,6 @@
 use borrow.Author.Needs.{needs}
-use Rattle.log.proofs.steps.finish.Statement.{statement}
-use Rattle.log.proofs.steps.finish.Tie as tie
+use Rattle.log.proofs.inner.finish.Statement.{statement}
+use Rattle.log.proofs.inner.finish.Tie as tie
 
 enum-told : tie.Need-enum-told
 enum-told c = search needs

@@ -1,0 +1,38 @@
+-- A log whose records stand in two lists, and another table's pairs offered as a log.
+use Prim.Native.Nat.{ℕ}
+use mathlib.Core.Bool.{cond}
+use mathlib.Core.List.{List, [], _∷_, _++_}
+use lib.Dec.{eqb}
+use lib.IntN.{ℤ}
+use lib.ListN.{length}
+use Rattle.told.specs.Told.{Told, gave, refused}
+use Rattle.tracker.specs.Table.{kept}
+use Rattle.tracker.specs.declared.TrackedSeq.{TrackedSeq}
+use Rattle.offers.specs.Whole.{Table, checkIn, Left, leaving}
+use Rattle.log.specs.Log.{Log, ownTable, otherTable, noneYet, runOf, unlessBad, logOf}
+
+-- a sequence and a second as a record
+abbrev pub pairOf : ℕ → ℤ → TrackedSeq
+pairOf q s = record { seq = record { 0 = q }; ts = record { 0 = s } }
+
+-- the records of two lists of one length
+unfoldable pub recordsOf : List ℕ → List ℤ → List TrackedSeq
+recordsOf (q ∷ seqs) (s ∷ secs) = pairOf q s ∷ recordsOf seqs secs
+recordsOf [] secs = []
+recordsOf (q ∷ seqs) [] = []
+
+-- `offer_pairs`: 18 where the lists differ in length; else the log of their records
+abbrev pub pairsLogOf : Table → List ℕ → List ℤ → Left (Told Log)
+pairsLogOf w seqs secs = cond (eqb (length seqs) (length secs)) (logOf w (recordsOf seqs secs)) (leaving (refused (18 ∷ [])) w)
+
+-- a refusal also tells, last, which table was bad
+abbrev pub ofTable : {A : Type 0} → ℕ → Told A → Told A
+ofTable which (gave a) = gave a
+ofTable which (refused what) = refused (what ++ (which ∷ []))
+
+-- `extend_from`: the own table is checked, then the other one; then the pairs that the other keeps are offered in order
+abbrev pub extendOf : Table → Table → Left (Told Log)
+extendOf w other =
+    unlessBad (ofTable ownTable (checkIn w)) w
+    (unlessBad (ofTable otherTable (checkIn other)) w
+    (runOf w noneYet 0 (recordsOf (kept (other .state) (other .seqs)) (kept (other .state) (other .secs)))))

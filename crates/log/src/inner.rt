@@ -1,0 +1,132 @@
+// A log record by record, for our own crates: begun, one step, the answer. Every list of offers goes by these.
+ghost use mathlib.Core.Path.{_≡_};
+ghost use Prim.Native.Nat.{_+_, _<_, _^_};
+ghost use Rattle.told.specs.Told.{gave};
+ghost use Rattle.tracker.specs.Table.{checkOf};
+ghost use Rattle.offers.specs.Whole.{whole};
+ghost use Rattle.log.specs.Log.{toldLog};
+ghost use Rattle.log.specs.Inner.{total, toldProgress, goingOf, stoppedOf, Begins, Steps};
+use crate::Logged;
+use crate::Tally;
+use offers::Offered;
+use offers::inner as offer;
+use tracker::Checked;
+use tracker::Refusal;
+use tracker::SequenceTracker;
+use tracker::TrackedSeq;
+use tracker::check;
+
+pub enum Phase {
+    Going,
+    Bad(Refusal),
+    Stopped { at: usize, why: Refusal },
+}
+
+// How far a log is. `end` is the number of records, and 0 once no more are to be offered, so that a loop up to it ends.
+pub struct Progress {
+    pub table: SequenceTracker,
+    pub tally: Tally,
+    pub phase: Phase,
+    pub end: usize,
+}
+
+// A log that goes on, after so many records.
+pub(crate) fn going(table: SequenceTracker, tally: Tally, end: usize) -> Progress
+    ensures { λ r. ⌜ r ≡ goingOf table tally end ⌝ }
+{
+    Progress {
+        table: table,
+        tally: tally,
+        phase: Phase::Going,
+        end: end,
+    }
+}
+
+// A log that a record has stopped. Those before it were recorded or skipped, so the two numbers give its position.
+fn stopped(table: SequenceTracker, tally: Tally, why: Refusal) -> Progress
+    requires { ⌜ total tally < 2 ^ 64 ⌝ }
+    ensures { λ r. ⌜ r ≡ stoppedOf table tally why ⌝ }
+{
+    let at = tally.recorded + tally.skipped;
+    Progress {
+        table: table,
+        tally: tally,
+        phase: Phase::Stopped { at: at, why: why },
+        end: 0,
+    }
+}
+
+// A log of n records before the first: a bad table is refused here.
+pub fn begin(seqs: &mut [u64], secs: &mut [i64], table: SequenceTracker, n: usize) -> Progress
+    ensures { λ r. ⌜ Begins (whole table (now (seqs .entry)) (now (secs .entry))) n r (now (seqs .exit)) (now (secs .exit)) ⌝ }
+{
+    let tally = Tally {
+        recorded: 0,
+        skipped: 0,
+    };
+    match check(table, seqs, secs) {
+        Checked::Good => going(table, tally, n),
+        Checked::Refused(why) => Progress {
+            table: table,
+            tally: tally,
+            phase: Phase::Bad(why),
+            end: 0,
+        },
+    }
+}
+
+// One record.
+pub fn step(seqs: &mut [u64], secs: &mut [i64], p: Progress, pair: TrackedSeq) -> Progress
+    requires { ⌜ (checkOf (p .table) (now seqs) (now secs) ≡ gave tt) × (total (p .tally) + 1 < 2 ^ 64) ⌝ }
+    ensures { λ r. ⌜ Steps p (now (seqs .entry)) (now (secs .entry)) pair r (now (seqs .exit)) (now (secs .exit)) ⌝ }
+{
+    let table = p.table;
+    let tally = p.tally;
+    match offer::offer_good(table, seqs, secs, pair.seq, pair.ts) {
+        Offered::Recorded(grown) => {
+            let recorded = tally.recorded + 1;
+            going(
+                grown,
+                Tally {
+                    recorded: recorded,
+                    skipped: tally.skipped,
+                },
+                p.end,
+            )
+        }
+        Offered::Skipped => {
+            let skipped = tally.skipped + 1;
+            going(
+                table,
+                Tally {
+                    recorded: tally.recorded,
+                    skipped: skipped,
+                },
+                p.end,
+            )
+        }
+        Offered::Refused(why) => stopped(table, tally, why),
+    }
+}
+
+// The answer.
+pub fn finish(p: Progress) -> Logged
+    ensures { λ r. ⌜ toldLog r ≡ toldProgress p ⌝ }
+{
+    let table = p.table;
+    let tally = p.tally;
+    let phase = p.phase;
+    match phase {
+        Phase::Going => Logged::Done {
+            table: table,
+            tally: tally,
+        },
+        Phase::Bad(why) => Logged::Refused(why),
+        Phase::Stopped { at, why } => Logged::Stopped {
+            at: at,
+            why: why,
+            table: table,
+            tally: tally,
+        },
+    }
+}

@@ -1,0 +1,51 @@
+-- What the exported calls with long statements promise: what goes in, the answer, and what the lent arrays hold afterwards.
+use Prim.Native.Nat.{ℕ}
+use mathlib.Core.Path.{_≡_}
+use mathlib.Core.List.{List}
+use lib.IntN.{ℤ}
+use lib.ListN.{length}
+use Rattle.told.specs.Told.{Told}
+use Rattle.tracker.specs.declared.SequenceTracker.{SequenceTracker}
+use Rattle.offers.specs.Whole.{Table, whole, Left, Leaves}
+use Rattle.offers.specs.Offer.{offering}
+use Rattle.log.specs.Pairs.{pairsLogOf, extendOf}
+use Rattle.encoder.specs.Encode.{encodedIn}
+use Rattle.store.specs.Save.{savedIn}
+use Rattle.store.specs.Restore.{restoreOf, seqsAfter, secsAfter}
+use Rattle.answers.specs.Answer.{ofCount}
+use Rattle.answers.specs.declared.Answer.{Answer}
+use Rattle.table_answers.specs.Table.{tableOf, ofTable, ofOffer, ofLog}
+use Rattle.table_answers.specs.declared.State.{State}
+use Rattle.table_answers.specs.declared.TableAnswer.{TableAnswer}
+
+-- an encoder by its rule
+abbrev pub Encodes : (List ℕ → List ℤ → ℕ → Told ℕ) → List ℕ → List ℤ → List ℕ → Answer → List ℕ → Type 0
+Encodes rule seqs secs out r out′ = (r ≡ ofCount (rule seqs secs (length out))) × (out′ ≡ encodedIn seqs secs (rule seqs secs (length out)) out)
+
+-- a save by its rule
+abbrev pub Saves : (SequenceTracker → List ℕ → List ℤ → ℕ → Told ℕ) → State → List ℕ → List ℤ → List ℕ → Answer → List ℕ → Type 0
+Saves rule s seqs secs out r out′ =
+    (r ≡ ofCount (rule (tableOf s) seqs secs (length out)))
+    × (out′ ≡ savedIn (tableOf s) seqs secs (rule (tableOf s) seqs secs (length out)) out)
+
+abbrev pub Restores : List ℕ → List ℕ → List ℤ → TableAnswer → List ℕ → List ℤ → Type 0
+Restores bytes seqs secs r seqs′ secs′ =
+    (r ≡ ofTable (restoreOf bytes seqs secs))
+    × (seqs′ ≡ seqsAfter bytes (restoreOf bytes seqs secs) seqs)
+    × (secs′ ≡ secsAfter bytes (restoreOf bytes seqs secs) secs)
+
+-- a call on a table, as it crosses: `of` makes the answer of what is told
+abbrev pub Crosses : {A : Type 0} → (A → TableAnswer) → Left A → TableAnswer → List ℕ → List ℤ → Type 0
+Crosses of left r seqs secs = Leaves (record { answer = of (left .answer); seqs = left .seqs; secs = left .secs }) r seqs secs
+
+abbrev pub tableIn : State → List ℕ → List ℤ → Table
+tableIn s seqs secs = whole (tableOf s) seqs secs
+
+abbrev pub Offers : State → List ℕ → List ℤ → ℕ → ℤ → TableAnswer → List ℕ → List ℤ → Type 0
+Offers s seqs secs seq sec = Crosses (ofOffer (tableOf s)) (offering (tableIn s seqs secs) (record { 0 = seq }) (record { 0 = sec }))
+
+abbrev pub OffersPairs : State → List ℕ → List ℤ → List ℕ → List ℤ → TableAnswer → List ℕ → List ℤ → Type 0
+OffersPairs s seqs secs fromSeqs fromSecs = Crosses ofLog (pairsLogOf (tableIn s seqs secs) fromSeqs fromSecs)
+
+abbrev pub Extends : State → List ℕ → List ℤ → State → List ℕ → List ℤ → TableAnswer → List ℕ → List ℤ → Type 0
+Extends s seqs secs other otherSeqs otherSecs = Crosses ofLog (extendOf (tableIn s seqs secs) (tableIn other otherSeqs otherSecs))
