@@ -8,13 +8,16 @@ use Rattle.gorilla.specs.Reading.{cutNumber, countOnes, readCode, readCodes, va
 use Rattle.gorilla.specs.Rows.{rowOf, strict}
 use Rattle.gorilla.specs.Wide.{wideAfter, wideIn, wideOf}
 use Rattle.offers.specs.Keep.{evens}
+use Rattle.log.specs.Log.{runOf}
 use Rattle.encoder.specs.Encode.{arraysRule, roomRule}
 use Rattle.decoder.specs.Decode.{listed}
+use Rattle.report.specs.Text.{digits, decimal, signedDecimal, line, lines, entriesText, refusedText}
+use Rattle.report.specs.Listing.{listingOf}
 use Rattle.theorems.specs.Run.{step, ranTo}
 use Rattle.theorems.specs.Cases.{Cases}
 
 pub cases : Cases
-unfolding arraysRule roomRule imageBytes leBytes arrayBits valuesBits codesBits codeBits rowOf packed bytesOf natFrom natBits wideOf wideIn wideAfter strict ranTo step firstFrom evens lastOr listed readPairs readPart leCount readArray readValues valuesAfter readCodes readCode countOnes cutNumber takeOff bitsOf
+unfolding arraysRule roomRule imageBytes leBytes arrayBits valuesBits codesBits codeBits rowOf packed bytesOf natFrom natBits wideOf wideIn wideAfter strict ranTo step runOf firstFrom evens lastOr listed readPairs readPart leCount readArray readValues valuesAfter readCodes readCode countOnes cutNumber takeOff bitsOf digits decimal signedDecimal line lines entriesText refusedText listingOf
 cases = record {
   extension = (refl, refl);
   P1 = ((refl, refl), refl);
@@ -23,6 +26,7 @@ cases = record {
   P4 = (refl, refl, refl);
   accepted = (refl, refl);
   P5 = (refl, refl);
+  listing = refl;
   padding = (refl, refl, refl);
   P6 = (refl, refl);
   P7 = (refl, refl, refl);
@@ -30,6 +34,7 @@ cases = record {
   P9 = ((refl, refl), (refl, refl), refl);
   P10 = (refl, refl);
   P11 = (refl, refl, (refl, refl));
+  log = refl;
   P12 = (refl, refl, refl, refl);
   runOnly = (refl, refl, refl, refl);
   order = (refl, refl);

@@ -17,7 +17,8 @@ use Rattle.gorilla.proofs.RoundTrip.{receivedPairs, reads, exact}
 use Rattle.tracker.proofs.Bools.{not-given}
 use Rattle.encoder.specs.Encode.{wideRule, roomRule}
 use Rattle.decoder.specs.Decode.{listed}
-use Rattle.theorems.specs.Run.{Table, Reload, Lent, keptIn, imageFor, strictTo, saveTo, readBack, Refused, RefusedWith, ReadsOthers}
+use Rattle.offers.specs.Whole.{Table}
+use Rattle.theorems.specs.Run.{Reload, Lent, keptIn, imageFor, strictTo, saveTo, readBack, Refused, RefusedWith, ReadsOthers}
 use Rattle.theorems.proofs.Sound.{Sound}
 use Rattle.theorems.proofs.Reload.{kept-fit, seqs-long, at-most, both-pass, save-is, wrote}
 

@@ -25,7 +25,8 @@ use Rattle.tracker.proofs.Kept.{kept-at, pairs-kept, check-kept}
 use Rattle.offers.proofs.Rise.{over-length}
 use Rattle.encoder.specs.Encode.{arraysRule, wideRule, roomRule}
 use Rattle.store.specs.Restore.{lastOf, readTable, judged}
-use Rattle.theorems.specs.Run.{Table, Reload, Lent, keptIn, imageFor, strictTo, stored, restoreTo, restoredTo, reloadedTo}
+use Rattle.offers.specs.Whole.{Table}
+use Rattle.theorems.specs.Run.{Reload, Lent, keptIn, imageFor, strictTo, stored, restoreTo, restoredTo, reloadedTo}
 use Rattle.theorems.proofs.Kept.{inside-fits}
 use Rattle.theorems.proofs.Sound.{Sound, Same, agreed-in, same-self}
 

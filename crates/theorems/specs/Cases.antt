@@ -1,5 +1,6 @@
 -- Document 01's cases P1 to P12, those that it only runs, and those that its rules name, as one table: what goes in, and what must come out.
 use Prim.Native.Nat.{ℕ}
+use Prim.Native.String.{String}
 use mathlib.Core.Path.{_≡_}
 use mathlib.Core.List.{List, [], _∷_, _++_, map}
 use lib.ListN.{length, take, replicate}
@@ -11,17 +12,21 @@ use Rattle.signed.specs.Extend.{extendRule}
 use Rattle.gorilla.specs.Format.{codeBits}
 use Rattle.gorilla.specs.Parser.{read}
 use Rattle.gorilla.specs.Reading.{Pairs, readCode}
-use Rattle.tracker.specs.Settings.{roomOf, emptyTable}
+use Rattle.tracker.specs.Settings.{roomOf, freshTable, emptyTable}
 use Rattle.tracker.specs.declared.Second.{Second}
 use Rattle.tracker.specs.declared.TrackedSeq.{TrackedSeq}
 use Rattle.tracker.specs.declared.LastRecorded.the-variants.{At}
 use Rattle.lookup.specs.Find.{Partner, partner, nothing, findTs}
 use Rattle.lookup.specs.declared.FindOption.{FindOption}
 use Rattle.lookup.specs.declared.FindOption.the-variants.{RoundUp, RoundDown}
-use Rattle.offers.specs.Offer.{skipped}
+use Rattle.offers.specs.Offer.{skipped, offerTo}
+use Rattle.log.specs.Log.{Log, stopped, logOf}
 use Rattle.encoder.specs.Encode.{lenRule, encodeRule, strictRule, encodedIn}
 use Rattle.decoder.specs.Decode.{decodeRule, seqsAfter, secsAfter}
-use Rattle.theorems.specs.Run.{Table, offered, keptIn, offerTo, ranTo}
+use Rattle.offers.specs.Whole.{Table}
+use Rattle.report.specs.Ascii.{ascii}
+use Rattle.report.specs.Listing.{listingOf}
+use Rattle.theorems.specs.Run.{offered, keptIn, ranTo}
 
 -- ---- what goes in
 
@@ -120,9 +125,17 @@ Keeps w l last = (keptIn w ≡ pairsIn l) × (w .state .«last_recorded_ts» ≡
 abbrev pub Skips : Table → TrackedSeq → Type 0
 Skips w r = offerTo w (r .seq) (r .ts) ≡ gave skipped
 
+-- a list of offers
+abbrev pub LogTells : Table → List TrackedSeq → Told Log → Type 0
+LogTells w l told = logOf w l .answer ≡ told
+
 -- `find_ts` of a sequence
 abbrev pub Finds : Table → ℕ → FindOption → Partner Second → Type 0
 Finds w seq opt found = findTs (w .state) (w .seqs) (w .secs) (record { 0 = seq }) opt ≡ gave found
+
+-- the program `listing`
+abbrev pub Prints : List ℕ → String → Type 0
+Prints input text = listingOf input ≡ ascii text
 
 -- ---- the table, each case under document 01's words
 
@@ -141,6 +154,8 @@ pub record Cases : Type 0 where
   pub accepted : ReadAs (1 ∷ 1 ∷ 0 ∷ replicate 9 0) (pos 0) × ReadAs (1 ∷ 0 ∷ 1 ∷ replicate 6 0) (negℤ (pos 64))
   -- (100,0),(164,60): 01 02000000 00000002 0000000000000064 C400 00000002 0000000000000000 9E00
   pub P5 : WritesImage (pair 100 0 ∷ pair 164 60 ∷ []) (fifth 0x00 0x00)
+  -- the listing of P5
+  pub listing : Prints (fifth 0x00 0x00) "entries 2\n0 100 0\n1 164 60\n"
   -- padding values are ignored
   pub padding : DecodesTo 3 (fifth 0x0F 0x7F) (pair 100 0 ∷ pair 164 60 ∷ [])
   -- sequences 0, 1, seconds 0, 2147483648: strict 20, seconds (array 1), index 1; 2147483647 is written (36 bytes)
@@ -161,17 +176,21 @@ pub record Cases : Type 0 where
       Skips (offeredAll 8192 60 (pair 1 100 ∷ [])) (pair 2 159)
       × Skips (offeredAll 8192 60 (pair 1 100 ∷ [])) (pair 2 99)
       × Keeps (offeredAll 8192 60 (pair 1 100 ∷ pair 2 160 ∷ [])) (pair 1 100 ∷ pair 2 160 ∷ []) 160
+  -- offered in order up to the first refusal: (4,160) after (5,100), recorded, and (6,159), skipped, is refused with 17 at position 2
+  pub log :
+      LogTells (offeredAll 4 60 []) (pair 5 100 ∷ pair 6 159 ∷ pair 4 160 ∷ pair 6 170 ∷ [])
+      (gave (stopped (17 ∷ 2 ∷ []) (freshTable 4 60 1 (At (second 100))) (record { recorded = 1; skipped = 1 })))
   -- in P8's table sequence 2: up 30, down 10; 6 up and 0 down: nothing
   pub P12 :
       Finds (offeredAll 4 0 (firstOf 5)) 2 RoundUp (partner (second 30))
       × Finds (offeredAll 4 0 (firstOf 5)) 2 RoundDown (partner (second 10))
       × Finds (offeredAll 4 0 (firstOf 5)) 6 RoundUp nothing
       × Finds (offeredAll 4 0 (firstOf 5)) 0 RoundDown nothing
-  -- run only, in the sequences (array 0): count 2, the first value, then byte 80 gives 8 with width 7; no byte gives 6; count 9 and byte 01 gives 7 at index 8. Input 02 is refused with 2
+  -- run only, in the sequences (array 0): count 2, the first value, then byte 80 gives 8 with width 7; no byte gives 6; count 9 and byte 01 gives 7 at index 8. Input 02 prints `refused 2`
   pub runOnly :
       DecodeTells 9 (begun 2 ++ replicate 8 0 ++ (0x80 ∷ [])) (refused (8 ∷ 0 ∷ 1 ∷ 7 ∷ []))
       × DecodeTells 9 (begun 2 ++ replicate 8 0) (refused (6 ∷ 0 ∷ 1 ∷ []))
       × DecodeTells 9 (begun 9 ++ replicate 8 0 ++ (0x01 ∷ [])) (refused (7 ∷ 0 ∷ 8 ∷ []))
-      × DecodeTells 9 (0x02 ∷ []) (refused (2 ∷ 2 ∷ []))
+      × Prints (0x02 ∷ []) "refused 2\n"
   -- per array 4, 10, 5: a count of 2 for two arrays of one place, with no first value after it, gives 10; with two places, 5
   pub order : DecodeTells 1 (begun 2) (refused (10 ∷ 0 ∷ [])) × DecodeTells 2 (begun 2) (refused (5 ∷ 0 ∷ []))

@@ -11,44 +11,28 @@ use Rattle.gorilla.specs.Format.{imageBytes}
 use Rattle.gorilla.specs.Parser.{Read, read}
 use Rattle.gorilla.specs.Reading.{Pairs}
 use Rattle.tracker.specs.Settings.{newTable}
-use Rattle.tracker.specs.Table.{kept, checkOf}
+use Rattle.tracker.specs.Table.{kept}
 use Rattle.tracker.specs.declared.Seq.{Seq}
 use Rattle.tracker.specs.declared.Second.{Second}
+use Rattle.tracker.specs.declared.TrackedSeq.{TrackedSeq}
 use Rattle.tracker.specs.declared.SequenceTracker.{SequenceTracker}
 use Rattle.lookup.specs.Find.{findTs, findSeq}
 use Rattle.lookup.specs.declared.FindOption.{FindOption}
-use Rattle.offers.specs.Offer.{Outcome, offerOf, after, stateAfter}
+use Rattle.offers.specs.Whole.{Table, whole, checkIn, Left}
+use Rattle.offers.specs.Offer.{Outcome, offerTo, offeredTo}
+use Rattle.log.specs.Log.{Log, done, stopped, logOf}
+use Rattle.log.specs.Pairs.{extendOf}
 use Rattle.decoder.specs.Decode.{listed}
 use Rattle.store.specs.Save.{saveStrictOf, saveOf, savedIn}
 use Rattle.store.specs.Restore.{restoreOf, seqsAfter, secsAfter}
 
--- a table: its state and its two lent arrays, whole
-pub record Table : Type 0 where
-  pub state : SequenceTracker
-  pub seqs : List ℕ
-  pub secs : List ℤ
-
 -- as `new` makes it, in two arrays that hold what they hold
 abbrev pub new : List ℕ → List ℤ → Table
-new seqs secs = record { state = newTable; seqs = seqs; secs = secs }
+new seqs secs = whole newTable seqs secs
 
 -- the pairs that a table keeps
 abbrev pub keptIn : Table → Pairs
 keptIn w = record { seqs = kept (w .state) (w .seqs); secs = kept (w .state) (w .secs) }
-
--- ---- an offer
-
--- what `offer` tells
-abbrev pub offerTo : Table → Seq → Second → Told Outcome
-offerTo w seq ts = offerOf (w .state) (w .seqs) (w .secs) seq ts
-
--- the table after an offer that tells this; skipped or refused, it is as it was
-abbrev pub offeredTo : Table → Seq → Second → Told Outcome → Table
-offeredTo w seq ts told = record {
-  state = stateAfter told (w .state);
-  seqs = after told (w .state) (w .seqs) (seq .0);
-  secs = after told (w .state) (w .secs) (ts .0);
-}
 
 -- ---- a strict save, and a restore of what it wrote
 
@@ -85,7 +69,7 @@ restoreTo w l = restoreOf (stored strictTo w l) (l .seqs) (l .secs)
 
 -- the table after a restore that tells this; a refused one leaves none, and a new one is begun
 abbrev pub restoredTo : Table → Reload → Told SequenceTracker → Table
-restoredTo w l (gave t) = record { state = t; seqs = seqsAfter (stored strictTo w l) (gave t) (l .seqs); secs = secsAfter (stored strictTo w l) (gave t) (l .secs) }
+restoredTo w l (gave t) = whole t (seqsAfter (stored strictTo w l) (gave t) (l .seqs)) (secsAfter (stored strictTo w l) (gave t) (l .secs))
 restoredTo w l (refused what) = new (l .seqs) (l .secs)
 
 -- the table after a strict save that tells this, and a restore; a refused save leaves the table standing
@@ -131,6 +115,21 @@ Proper [] = Unit {0}
 Proper (offered seq ts ∷ es) = (seq .0 < 2 ^ 64) × Proper es
 Proper (reloaded l ∷ es) = Lent (l .seqs) (l .secs) × Proper es
 
+-- ---- a list of offers
+
+-- the table after a list of offers that left this; refused before the first record, the state is as it was
+abbrev pub stateIn : Told Log → SequenceTracker → SequenceTracker
+stateIn (gave (done t n)) state = t
+stateIn (gave (stopped what t n)) state = t
+stateIn (refused what) state = state
+
+abbrev pub loggedTo : Table → Left (Told Log) → Table
+loggedTo w l = whole (stateIn (l .answer) (w .state)) (l .seqs) (l .secs)
+
+-- two tables are told the same, and keep the same pairs afterwards
+abbrev pub SameLog : Table → Left (Told Log) → Table → Left (Told Log) → Type 0
+SameLog w l v m = (l .answer ≡ m .answer) × (keptIn (loggedTo w l) ≡ keptIn (loggedTo v m))
+
 -- ---- when a strict save is refused
 
 -- refused, with any number; and with this one
@@ -157,10 +156,14 @@ ReadsOthers w l = (p : Pairs) × (readBack w l ≡ read p (bitsOf (l .following)
 -- what is claimed of the table w that a run leads to, beside the table v that the offers alone lead to
 pub record Unharmed (w v : Table) : Type 0 where
   -- the table is good
-  pub good : checkOf (w .state) (w .seqs) (w .secs) ≡ gave tt
+  pub good : checkIn w ≡ gave tt
   -- the kept pairs, and the state, with the last recorded second in it
   pub pairs : keptIn w ≡ keptIn v
   pub state : w .state ≡ v .state
+  -- each list of offers, each other table's pairs, and each other table that takes the pairs of this one
+  pub by-log : (rs : List TrackedSeq) → SameLog w (logOf w rs) v (logOf v rs)
+  pub by-other : (other : Table) → SameLog w (extendOf w other) v (extendOf v other)
+  pub as-other : (other : Table) → extendOf other w ≡ extendOf other v
   -- each lookup
   pub by-seq : (x : Seq) (opt : FindOption) → findTs (w .state) (w .seqs) (w .secs) x opt ≡ findTs (v .state) (v .seqs) (v .secs) x opt
   pub by-second : (x : Second) (opt : FindOption) → findSeq (w .state) (w .seqs) (w .secs) x opt ≡ findSeq (v .state) (v .seqs) (v .secs) x opt
