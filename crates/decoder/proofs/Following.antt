@@ -21,7 +21,7 @@ use Rattle.gorilla.specs.RoundTrip.{Fit}
 use Rattle.gorilla.proofs.Bridge.{length-bitsOf}
 use Rattle.gorilla.proofs.RoundTrip.{receivedPairs, received-lengths, reads, exact}
 use Rattle.gorilla.proofs.Ignored.{following-ignored}
-use Rattle.decoder.specs.Decode.{listed, countOf, decodeRule, seqsOver, secsOver, seqsAfter, secsAfter, lenOf, lenRule, startOf}
+use Rattle.decoder.specs.Decode.{listed, countOf, decodeRule, seqsAfter, secsAfter, lenOf, lenRule, startOf}
 use Rattle.decoder.specs.Following.{imageThen, RestFollows, DecodesBack, CallsIgnoreFollowing}
 
 image-len-is : (p : Pairs) (following : List ℕ) → Fit p → lenRule (imageThen p following) ≡ gave (length (imageBytes (p .seqs) (p .secs)))
@@ -68,9 +68,11 @@ none-given l n e = let z : _≡_ {A = ℕ} 0 1 = cc in omega arith
 
 module _ (bytes following seqs : List ℕ) (secs : List ℤ) (n : ℕ) where
   decode-followed : (r : Read Pairs) → listed bytes seqs secs ≡ r → countOf r ≡ gave n
-      → (decodeRule (bytes ++ following) seqs secs ≡ gave n) × (seqsAfter (bytes ++ following) seqs secs ≡ seqsOver seqs r) × (secsAfter (bytes ++ following) seqs secs ≡ secsOver secs r)
+      → (decodeRule (bytes ++ following) seqs secs ≡ gave n)
+      × (seqsAfter (bytes ++ following) seqs secs ≡ seqsAfter bytes seqs secs)
+      × (secsAfter (bytes ++ following) seqs secs ≡ secsAfter bytes seqs secs)
   unfolding listed
-  decode-followed (read p left) e h = rw (following-ignored (λ k. leb k (min (length seqs) (length secs))) bytes following left p e) (h, refl, refl)
+  decode-followed (read p left) e h = rw (following-ignored (λ k. leb k (min (length seqs) (length secs))) bytes following left p e, e) (h, refl, refl)
   decode-followed (refused l) e h = absurd (none-given l n h)
 
   len-followed : (r : Read Pairs) → readImage (λ k. true) bytes ≡ r → lenOf bytes r ≡ gave n → (lenRule (bytes ++ following) ≡ gave n) × (n ≤ length bytes)
