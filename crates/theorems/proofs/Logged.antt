@@ -1,7 +1,11 @@
 -- Two tables that keep the same pairs are told the same of a list of offers, and keep the same pairs afterwards.
 use mathlib.Core.Path.{_≡_, refl, ap, subst}
+use mathlib.Core.Bool.{Bool, true, false, cond}
 use mathlib.Core.List.{List, [], _∷_, _++_}
 use Prim.Native.Nat.{ℕ, _+_}
+use lib.Dec.{eqb}
+use lib.IntN.{ℤ}
+use lib.ListN.{length}
 use Rattle.told.specs.Told.{Told, gave, refused}
 use Rattle.tracker.specs.declared.TrackedSeq.{TrackedSeq}
 use Rattle.tracker.specs.declared.SequenceTracker.{SequenceTracker}
@@ -9,7 +13,7 @@ use Rattle.offers.specs.Whole.{Table, checkIn, Left, leaving}
 use Rattle.offers.specs.Offer.{Outcome}
 use Rattle.log.specs.declared.Tally.{Tally}
 use Rattle.log.specs.Log.{Log, done, stopped, noneYet, counted, tells, afterRecord, unlessRefused, unlessBad, runOf, logOf, ownTable, otherTable}
-use Rattle.log.specs.Pairs.{recordsOf, ofTable, extendOf}
+use Rattle.log.specs.Pairs.{recordsOf, pairsLogOf, ofTable, extendOf}
 use Rattle.theorems.specs.Run.{keptIn, SameLog}
 use Rattle.theorems.proofs.Sound.{Same, offered-told, offered-same}
 
@@ -32,6 +36,13 @@ run-same w₀ v₀ w v n i (r ∷ rs) M =
 module _ (w v : Table) (g : checkIn w ≡ gave tt) (g′ : checkIn v ≡ gave tt) (M : Same w v) where
   pub log-same : (rs : List TrackedSeq) → SameLog w (logOf w rs) v (logOf v rs)
   log-same rs = rw (g, g′) (run-same w v w v noneYet 0 rs M)
+
+  pub pairs-same : (qs : List ℕ) (ss : List ℤ) → SameLog w (pairsLogOf w qs ss) v (pairsLogOf v qs ss)
+  pairs-same qs ss = go (eqb (length qs) (length ss))
+    where
+      go : (b : Bool) → SameLog w (cond b (logOf w (recordsOf qs ss)) (leaving (refused (18 ∷ [])) w)) v (cond b (logOf v (recordsOf qs ss)) (leaving (refused (18 ∷ [])) v))
+      go true = log-same (recordsOf qs ss)
+      go false = (refl, same-kept w v M)
 
   pub extend-same : (other : Table) → SameLog w (extendOf w other) v (extendOf v other)
   extend-same other = rw (g, g′) (go (ofTable otherTable (checkIn other)))

@@ -14,7 +14,7 @@ use Rattle.theorems.specs.Run.{new, Event, offered, reloaded, step, ranT
 use Rattle.theorems.proofs.Sound.{Sound, Same, offered-sound, offered-told, offered-same, new-sound, same-self, same-trans}
 use Rattle.theorems.proofs.Reload.{restores, reload-sound, reload-same}
 use Rattle.theorems.proofs.Exact.{exactly, writes}
-use Rattle.theorems.proofs.Logged.{same-kept, log-same, extend-same, extend-by-same}
+use Rattle.theorems.proofs.Logged.{same-kept, log-same, pairs-same, extend-same, extend-by-same}
 
 -- what a run keeps up, of the table w that it has led to and the table v of the offers alone
 record Kept (w v : Table) : Type 0 where
@@ -56,6 +56,7 @@ unharmed w v K =
       pairs = same-kept w v M;
       state = M .state;
       by-log = log-same w v (K .sound .good) (K .sound′ .good) M;
+      by-pairs = pairs-same w v (K .sound .good) (K .sound′ .good) M;
       by-other = extend-same w v (K .sound .good) (K .sound′ .good) M;
       as-other = extend-by-same w v (K .sound .good) (K .sound′ .good) M;
       by-seq = λ x opt. rw (← M .state) (kept-ts (w .state) (w .seqs) (v .seqs) (w .secs) (v .secs) x opt k);

@@ -21,7 +21,7 @@ use Rattle.lookup.specs.declared.FindOption.{FindOption}
 use Rattle.offers.specs.Whole.{Table, whole, checkIn, Left}
 use Rattle.offers.specs.Offer.{Outcome, offerTo, offeredTo}
 use Rattle.log.specs.Log.{Log, done, stopped, logOf}
-use Rattle.log.specs.Pairs.{extendOf}
+use Rattle.log.specs.Pairs.{pairsLogOf, extendOf}
 use Rattle.decoder.specs.Decode.{listed}
 use Rattle.store.specs.Save.{saveStrictOf, saveOf, savedIn}
 use Rattle.store.specs.Restore.{restoreOf, seqsAfter, secsAfter}
@@ -160,8 +160,9 @@ pub record Unharmed (w v : Table) : Type 0 where
   -- the kept pairs, and the state, with the last recorded second in it
   pub pairs : keptIn w ≡ keptIn v
   pub state : w .state ≡ v .state
-  -- each list of offers, each other table's pairs, and each other table that takes the pairs of this one
+  -- each list of offers, as records and as two lists; each other table's pairs, and each other table that takes the pairs of this one
   pub by-log : (rs : List TrackedSeq) → SameLog w (logOf w rs) v (logOf v rs)
+  pub by-pairs : (qs : List ℕ) (ss : List ℤ) → SameLog w (pairsLogOf w qs ss) v (pairsLogOf v qs ss)
   pub by-other : (other : Table) → SameLog w (extendOf w other) v (extendOf v other)
   pub as-other : (other : Table) → extendOf other w ≡ extendOf other v
   -- each lookup
