@@ -116,7 +116,7 @@ pub fn of_decoded(decoded: Decoded) -> Answer
 }
 
 pub fn of_image_len(len: ImageLen) -> Answer
-    ensures { λ r. ⌜ r ≡ ofCount (decoding.toldLen len) ⌝ }
+    ensures { λ r. ⌜ r ≡ ofCount (decoding.toldImageLen len) ⌝ }
 {
     match len {
         ImageLen::Bytes(n) => given(n as u64, 0, 0),

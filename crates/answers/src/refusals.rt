@@ -1,7 +1,7 @@
 // A refusal's number, and what it also tells.
 ghost use mathlib.Core.Path.{_≡_};
 ghost use Rattle.gorilla.specs.Array.{arrayNo};
-ghost use Rattle.array_reader.specs.Refusal.{numbers};
+ghost use Rattle.code_reader.specs.Refusal as reader;
 ghost use Rattle.encoder.specs.Encode as encoding;
 ghost use Rattle.tracker.specs.Refusal as table;
 ghost use Rattle.answers.specs.Answer.{refusedBy};
@@ -30,7 +30,7 @@ fn array_no(array: Array) -> u64
 
 // Of the readers.
 pub fn reading(why: decoder::Refusal) -> Answer
-    ensures { λ r. ⌜ r ≡ refusedBy (numbers why) ⌝ }
+    ensures { λ r. ⌜ r ≡ refusedBy (reader.told why) ⌝ }
 {
     match why {
         decoder::Refusal::Empty => refused(1, 0, 0, 0),

@@ -17,10 +17,10 @@ use Rattle.bits.proofs.Answers.{pos-le}
 use Rattle.gorilla.specs.BitList.{bitsOf, byteLen}
 use Rattle.gorilla.specs.Parser.{Read, read, refused, takeOff, andThen, shape, isRead, readOr, require}
 use Rattle.gorilla.specs.Places.{bitsFrom}
-use Rattle.gorilla.specs.Reading.{readCode, readCodes, valuesAfter, readValues, readArray, readPart, thenAlign}
+use Rattle.gorilla.specs.Reading.{readCode, readCodes, valuesAfter, readValues, readArray, readPart}
 use Rattle.gorilla.proofs.Bridge.{length-bitsOf}
 use Rattle.gorilla.proofs.ImageTrip.{length-after}
-use Rattle.array_reader.specs.Steps.{arrayAt, passedAt}
+use Rattle.array_reader.specs.Inner.{arrayAt, passedAt, aligned}
 
 -- ---- a scan says what there is to read
 shape-read : (r : Read (List ℤ)) {bs : List ℕ} → read tt bs ≡ shape r → r ≡ read (readOr [] r) bs
@@ -52,7 +52,7 @@ end-within len e = omega (arith, pos-le len e)
 module _ (s : List ℕ) (a : ℕ) (bs : List ℕ) where
   pub values-found : (n : ℕ) (q e : Place) → 1 ≤ n → {v : ℕ} {f : ℤ} → f ≡ signed v → takeOff (5 ∷ a ∷ []) 64 0 bs ≡ read v (bitsFrom s q)
       → read tt (bitsFrom s e) ≡ shape (readCodes a (n - 1) 1 (bitsFrom s q))
-      → read (arrayAt s a n f q) (drop (byteLen (posOf (length s) e) * 8) (bitsOf s)) ≡ thenAlign (readValues a n bs)
+      → read (arrayAt s a n f q) (drop (byteLen (posOf (length s) e) * 8) (bitsOf s)) ≡ aligned (readValues a n bs)
   unfolding readValues arrayAt
   values-found zero q e h i j k = absurd (omega (arith, h))
   values-found (suc m) q e h {v} {f} i j k =
@@ -60,22 +60,22 @@ module _ (s : List ℕ) (a : ℕ) (bs : List ℕ) where
       let c : readCodes a m 1 (bitsFrom s q) ≡ read (readOr [] (readCodes a m 1 (bitsFrom s q))) (bitsFrom s e) = shape-read (readCodes a m 1 (bitsFrom s q)) (rw o at k) in
       rw j
       (ap₂ (λ (x : ℤ) (r : List ℕ). read (x ∷ valuesAfter x (pos 0) (readOr [] (readCodes a m 1 (bitsFrom s q)))) r) i (sym (align-at s e))
-      ∙ sym (ap (λ (r : Read (List ℤ)). thenAlign (andThen r (λ ds cs. read (signed v ∷ valuesAfter (signed v) (pos 0) ds) cs))) c))
+      ∙ sym (ap (λ (r : Read (List ℤ)). aligned (andThen r (λ ds cs. read (signed v ∷ valuesAfter (signed v) (pos 0) ds) cs))) c))
 
-  pub values-passed : (n : ℕ) (q e : Place) → 1 ≤ n → read tt (bitsFrom s e) ≡ shape (readCodes a (n - 1) 1 (bitsFrom s q)) → passedAt s a n q
+  pub values-passed : (n : ℕ) (q e : Place) → 1 ≤ n → 8 ≤ length s → read tt (bitsFrom s e) ≡ shape (readCodes a (n - 1) 1 (bitsFrom s q)) → passedAt s a n q
   unfolding passedAt
-  values-passed zero q e h k = tt
-  values-passed (suc m) q e h k = let o : suc m - 1 ≡ m = omega arith in shape-is (readCodes a m 1 (bitsFrom s q)) (rw o at k)
+  values-passed zero q e h l k = tt
+  values-passed (suc m) q e h l k = let o : suc m - 1 ≡ m = omega arith in (l, shape-is (readCodes a m 1 (bitsFrom s q)) (rw o at k))
 
   pub values-cut : (n : ℕ) → 1 ≤ n → {v : ℕ} {q : List ℕ} {l : List ℕ} → takeOff (5 ∷ a ∷ []) 64 0 bs ≡ read v q → refused l ≡ shape (readCodes a (n - 1) 1 q)
-      → refused l ≡ thenAlign (readValues a n bs)
+      → refused l ≡ aligned (readValues a n bs)
   unfolding readValues
   values-cut zero h j k = absurd (omega (arith, h))
   values-cut (suc m) h {v} {q} {l} j k =
       let o : suc m - 1 ≡ m = omega arith in
       rw j (rw (shape-refused (readCodes a m 1 q) (rw o at k)))
 
-  pub values-short : (n : ℕ) → 1 ≤ n → takeOff (5 ∷ a ∷ []) 64 0 bs ≡ refused (5 ∷ a ∷ []) → refused (5 ∷ a ∷ []) ≡ thenAlign (readValues a n bs)
+  pub values-short : (n : ℕ) → 1 ≤ n → takeOff (5 ∷ a ∷ []) 64 0 bs ≡ refused (5 ∷ a ∷ []) → refused (5 ∷ a ∷ []) ≡ aligned (readValues a n bs)
   unfolding readValues
   values-short zero h j = absurd (omega (arith, h))
   values-short (suc m) h j = rw j
@@ -108,7 +108,7 @@ from-byte s n = go (ltb n (length s)) refl
         drop-of-length-le (bitsOf s) l ∙ sym (drop-of-length-le (bitsOf s) m)
 
 -- an array of no values
-pub none-found : (s : List ℕ) (a n : ℕ) (p : Place) (f : ℤ) → n ≡ 0 → read (arrayAt s a 0 f p) (drop (byteLen (posOf (length s) p) * 8) (bitsOf s)) ≡ thenAlign (readValues a n (bitsFrom s p))
+pub none-found : (s : List ℕ) (a n : ℕ) (p : Place) (f : ℤ) → n ≡ 0 → read (arrayAt s a 0 f p) (drop (byteLen (posOf (length s) p) * 8) (bitsOf s)) ≡ aligned (readValues a n (bitsFrom s p))
 unfolding readValues arrayAt
 none-found s a zero p f e = ap (read []) (sym (align-at s p))
 none-found s a (suc n) p f e = absurd (omega arith)
@@ -135,59 +135,59 @@ codes-length a (suc k) i bs h = go (readCode a i bs) h (λ r. codes-length a k (
 pub array-length : (s : List ℕ) (a n : ℕ) (f : ℤ) (q : Place) → passedAt s a n q → length (arrayAt s a n f q) ≡ n
 unfolding arrayAt passedAt
 array-length s a zero f q h = refl
-array-length s a (suc k) f q h = ap suc (length-after f (pos 0) _ ∙ codes-length a k 1 (bitsFrom s q) h)
+array-length s a (suc k) f q h = ap suc (length-after f (pos 0) _ ∙ codes-length a k 1 (bitsFrom s q) (h .1))
 
 module _ (a : ℕ) (room : ℕ → Bool) (n : ℕ) (bs : List ℕ) where
-  pub part-found : {xs : List ℤ} {r : List ℕ} → read xs r ≡ thenAlign (readArray a room bs) → length xs ≡ n → readPart a room n bs ≡ read xs r
+  pub part-found : {xs : List ℤ} {r : List ℕ} → read xs r ≡ aligned (readArray a room bs) → length xs ≡ n → readPart a room n bs ≡ read xs r
   unfolding readPart
   part-found {xs} {r} h e = go (readArray a room bs) h
     where
-      go : (t : Read (List ℤ)) → read xs r ≡ thenAlign t
+      go : (t : Read (List ℤ)) → read xs r ≡ aligned t
           → andThen t (λ ys cs. andThen (require (eqb (length ys) n) (9 ∷ a ∷ []) cs) (λ u ds. read ys (drop (length ds % 8) ds))) ≡ read xs r
       go (read ys cs) g = let y : xs ≡ ys = cc in let l : length ys ≡ n = ap length (sym y) ∙ e in rw (eq-eqb (length ys) n l) (sym g)
       go (refused l) g = let z : _≡_ {A = ℕ} 0 1 = cc in absurd (omega arith)
 
-  pub part-differs : {xs : List ℤ} {r : List ℕ} → read xs r ≡ thenAlign (readArray a room bs) → (length xs ≡ n → ⊥) → readPart a room n bs ≡ refused (9 ∷ a ∷ [])
+  pub part-differs : {xs : List ℤ} {r : List ℕ} → read xs r ≡ aligned (readArray a room bs) → (length xs ≡ n → ⊥) → readPart a room n bs ≡ refused (9 ∷ a ∷ [])
   unfolding readPart
   part-differs {xs} {r} h e = go (readArray a room bs) h
     where
-      go : (t : Read (List ℤ)) → read xs r ≡ thenAlign t
+      go : (t : Read (List ℤ)) → read xs r ≡ aligned t
           → andThen t (λ ys cs. andThen (require (eqb (length ys) n) (9 ∷ a ∷ []) cs) (λ u ds. read ys (drop (length ds % 8) ds))) ≡ refused (9 ∷ a ∷ [])
       go (read ys cs) g = let y : xs ≡ ys = cc in rw (ne-eqb (length ys) n (λ l. e (ap length y ∙ l)))
       go (refused l) g = let z : _≡_ {A = ℕ} 0 1 = cc in absurd (omega arith)
 
-  pub part-refused : {l : List ℕ} → refused l ≡ thenAlign (readArray a room bs) → readPart a room n bs ≡ refused l
+  pub part-refused : {l : List ℕ} → refused l ≡ aligned (readArray a room bs) → readPart a room n bs ≡ refused l
   unfolding readPart
   part-refused {l} h = go (readArray a room bs) h
     where
-      go : (t : Read (List ℤ)) → refused l ≡ thenAlign t
+      go : (t : Read (List ℤ)) → refused l ≡ aligned t
           → andThen t (λ ys cs. andThen (require (eqb (length ys) n) (9 ∷ a ∷ []) cs) (λ u ds. read ys (drop (length ds % 8) ds))) ≡ refused l
       go (read ys cs) g = let z : _≡_ {A = ℕ} 0 1 = cc in absurd (omega arith)
       go (refused m) g = sym g
 
 -- ---- an array that is read has found room
-values-length : (a n : ℕ) (q : List ℕ) {xs : List ℤ} {r : List ℕ} → read xs r ≡ thenAlign (readValues a n q) → length xs ≡ n
+values-length : (a n : ℕ) (q : List ℕ) {xs : List ℤ} {r : List ℕ} → read xs r ≡ aligned (readValues a n q) → length xs ≡ n
 unfolding readValues
 values-length a zero q {xs} {r} h = let e : xs ≡ [] = cc in ap length e
 values-length a (suc k) q {xs} {r} h = go (takeOff (5 ∷ a ∷ []) 64 0 q) h
   where
-    last : (x : ℤ) (t : Read (List ℤ)) → (isRead t ≡ true → length (readOr [] t) ≡ k) → read xs r ≡ thenAlign (andThen t (λ ds cs. read (x ∷ valuesAfter x (pos 0) ds) cs)) → length xs ≡ suc k
+    last : (x : ℤ) (t : Read (List ℤ)) → (isRead t ≡ true → length (readOr [] t) ≡ k) → read xs r ≡ aligned (andThen t (λ ds cs. read (x ∷ valuesAfter x (pos 0) ds) cs)) → length xs ≡ suc k
     last x (read ds cs) f g = let e : xs ≡ x ∷ valuesAfter x (pos 0) ds = cc in ap length e ∙ ap suc (length-after x (pos 0) ds ∙ f refl)
     last x (refused l) f g = let z : _≡_ {A = ℕ} 0 1 = cc in absurd (omega arith)
 
-    go : (t : Read ℕ) → read xs r ≡ thenAlign (andThen t (λ v cs. andThen (readCodes a k 1 cs) (λ ds ws. read (signed v ∷ valuesAfter (signed v) (pos 0) ds) ws))) → length xs ≡ suc k
+    go : (t : Read ℕ) → read xs r ≡ aligned (andThen t (λ v cs. andThen (readCodes a k 1 cs) (λ ds ws. read (signed v ∷ valuesAfter (signed v) (pos 0) ds) ws))) → length xs ≡ suc k
     go (read v cs) g = last (signed v) (readCodes a k 1 cs) (codes-length a k 1 cs) g
     go (refused l) g = let z : _≡_ {A = ℕ} 0 1 = cc in absurd (omega arith)
 
-pub array-room : (a : ℕ) (room : ℕ → Bool) (bs : List ℕ) {xs : List ℤ} {r : List ℕ} → read xs r ≡ thenAlign (readArray a room bs) → room (length xs) ≡ true
+pub array-room : (a : ℕ) (room : ℕ → Bool) (bs : List ℕ) {xs : List ℤ} {r : List ℕ} → read xs r ≡ aligned (readArray a room bs) → room (length xs) ≡ true
 unfolding readArray
 array-room a room bs {xs} {r} h = go (takeOff (4 ∷ a ∷ []) 32 0 bs) h
   where
-    by-room : (n : ℕ) (q : List ℕ) (t : Bool) → room n ≡ t → read xs r ≡ thenAlign (andThen (require t (10 ∷ a ∷ []) q) (λ u. readValues a n)) → room (length xs) ≡ true
+    by-room : (n : ℕ) (q : List ℕ) (t : Bool) → room n ≡ t → read xs r ≡ aligned (andThen (require t (10 ∷ a ∷ []) q) (λ u. readValues a n)) → room (length xs) ≡ true
     by-room n q true e g = ap room (values-length a n q g) ∙ e
     by-room n q false e g = let z : _≡_ {A = ℕ} 0 1 = cc in absurd (omega arith)
 
-    go : (t : Read ℕ) → read xs r ≡ thenAlign (andThen t (λ n cs. andThen (require (room n) (10 ∷ a ∷ []) cs) (λ u. readValues a n))) → room (length xs) ≡ true
+    go : (t : Read ℕ) → read xs r ≡ aligned (andThen t (λ n cs. andThen (require (room n) (10 ∷ a ∷ []) cs) (λ u. readValues a n))) → room (length xs) ≡ true
     go (read n cs) g = by-room n cs (room n) refl g
     go (refused l) g = let z : _≡_ {A = ℕ} 0 1 = cc in absurd (omega arith)
 
@@ -200,7 +200,12 @@ array-first s a (suc k) f q h = let o : k ≡ suc k - 1 = omega arith in ap (λ 
 pub passed-first : (s : List ℕ) (a n : ℕ) (q : Place) → 1 ≤ n → passedAt s a n q → isRead (readCodes a (n - 1) 1 (bitsFrom s q)) ≡ true
 unfolding passedAt
 passed-first s a zero q h p = absurd (omega (arith, h))
-passed-first s a (suc k) q h p = let o : suc k - 1 ≡ k = omega arith in ap (λ (u : ℕ). isRead (readCodes a u 1 (bitsFrom s q))) o ∙ p
+passed-first s a (suc k) q h p = let o : suc k - 1 ≡ k = omega arith in ap (λ (u : ℕ). isRead (readCodes a u 1 (bitsFrom s q))) o ∙ p .1
+
+pub passed-long : (s : List ℕ) (a n : ℕ) (q : Place) → 1 ≤ n → passedAt s a n q → 8 ≤ length s
+unfolding passedAt
+passed-long s a zero q h p = absurd (omega (arith, h))
+passed-long s a (suc k) q h p = p .0
 
 pub array-none : (s : List ℕ) (a n : ℕ) (f : ℤ) (q : Place) → n ≡ 0 → arrayAt s a n f q ≡ []
 unfolding arrayAt

@@ -18,7 +18,7 @@ use Rattle.gorilla.specs.Reading.{readCode, readCodes, valuesAfter}
 use Rattle.gorilla.specs.Steps.{followed}
 use Rattle.gorilla.specs.declared.Track.{Track}
 use Rattle.gorilla.proofs.Readers.{codes-next}
-use Rattle.array_reader.specs.Steps.{arrayAt, passedAt}
+use Rattle.array_reader.specs.Inner.{arrayAt, passedAt}
 use Rattle.array_reader.proofs.Arrays.{array-length, array-first, array-none}
 
 -- values stored from the start on, and past them what stood there

@@ -1,5 +1,3 @@
-pub mod Runs
-pub mod Window
+mod Runs
 pub mod Arrays
-pub mod Filling
-pub mod Unique
+mod Filling

@@ -1,50 +1,31 @@
--- Codes of one zero bit each. Assumes nothing.
-use Prim.Native.Nat.{ℕ, zero, suc, _+_, _-_, _*_, _/_, _%_, _^_, _≤_, _<_}
-use mathlib.Core.Path.{_≡_, refl, sym, ap, ap₂, _∙_, subst}
+-- Codes of a window: those of one zero bit each, and any other. Assumes nothing.
+use Prim.Native.Nat.{ℕ, zero, suc, _+_, _-_, _*_, _≤_, _<_}
+use mathlib.Core.Path.{_≡_, refl, sym, ap, ap₂, _∙_}
 use mathlib.Core.Bool.{Bool, true, false, cond}
 use mathlib.Core.List.{List, _∷_, _++_}
-use native.Mathlib.Nat.{add-zero, not-suc-le-zero, zero-div}
+use native.Mathlib.Nat.{add-zero, not-suc-le-zero}
 use native.Mathlib.Numerals.{add-one}
 use native.Mathlib.Omega.{arith}
-use borrow.Author.Tests.{lt-ltb, ltb-true, ltb-false}
+use borrow.Author.Tests.{ltb-true}
 use lib.Dec.{ltb}
 use lib.ListN.{length, drop, getD, replicate}
 use lib.Seq.{drop-cons}
-use lib.IntN.{pos}
-use Rattle.bits.specs.Bits.{bitAt, bitsAt}
-use Rattle.bits.specs.Place.{posOf}
+use lib.IntN.{ℤ, pos}
+use Rattle.bits.specs.Bits.{bitAt}
+use Rattle.bits.specs.Place.{posOf, placeOf}
 use Rattle.bits.specs.declared.Place.{Place}
-use Rattle.bits.proofs.Bits.{bitAt-eq}
+use Rattle.bits.proofs.Answers.{pos-place}
 use Rattle.gorilla.specs.BitList.{bitsOf}
-use Rattle.gorilla.specs.Parser.{read, takeOff, shape}
+use Rattle.gorilla.specs.Parser.{read, refused, takeOff, shape}
 use Rattle.gorilla.specs.Places.{bitsFrom}
 use Rattle.gorilla.specs.Reading.{countOnes, readCode, readCodes}
 use Rattle.gorilla.proofs.Bridge.{bit-is, length-bitsOf}
 use Rattle.gorilla.proofs.Readers.{shape-next}
-
--- a place as a count of bits
-pub pos-at : (len b r : ℕ) → r < 8 → b * 8 + r ≤ len * 8 → posOf len (record { byte = b; bit = r }) ≡ b * 8 + r
-unfolding posOf
-pos-at len b r k h = go (ltb b len) refl
-  where
-    go : (t : Bool) → ltb b len ≡ t → cond t (cond (ltb r 8) (b * 8 + r) (len * 8)) (len * 8) ≡ b * 8 + r
-    go true e = rw (lt-ltb r 8 k) refl
-    go false e = omega (arith, ltb-false b len e)
-
--- ---- bits that are 0
--- those of a byte 0
-pub byte-zero : (s : List ℕ) (b j : ℕ) → getD s b 0 ≡ 0 → j < 8 → bitAt s (b * 8 + j) ≡ 0
-byte-zero s b j e h = bitAt-eq s b j h ∙ ap (λ (u : ℕ). u / 2 ^ (7 - j) % 2) e ∙ ap (λ (u : ℕ). u % 2) (zero-div (2 ^ (7 - j)))
-
--- those of n bits that are the number 0
-pub word-zero : (s : List ℕ) (p n j : ℕ) → bitsAt s p n ≡ 0 → j < n → bitAt s (p + j) ≡ 0
-unfolding bitsAt
-word-zero s p zero j e h = absurd (not-suc-le-zero h)
-word-zero s p (suc n) j e h = go (ltb j n) refl (λ k. word-zero s p n j (omega arith) k)
-  where
-    go : (t : Bool) → ltb j n ≡ t → (j < n → bitAt s (p + j) ≡ 0) → bitAt s (p + j) ≡ 0
-    go true k f = f (ltb-true j n k)
-    go false k f = let q : n ≡ j = omega (arith, ltb-false j n k, h) in subst (λ (u : ℕ). bitAt s (p + u) ≡ 0) q (omega arith)
+use Rattle.code_reader.specs.Refusal.{told}
+use Rattle.code_reader.specs.declared.Refusal.{Refusal}
+use Rattle.code_reader.specs.Inner.{Holds, Zeros, ReadsCode}
+use Rattle.code_reader.specs.declared.window.Window.{Window}
+use Rattle.code_reader.specs.declared.code.CodeRead.the-variants as c
 
 -- ---- n zeros before other bits
 -- the first of them is the code of 0
@@ -78,7 +59,43 @@ zeros-on s (suc n) p h z =
     ∙ ap (λ (r : List ℕ). 0 ∷ r) (zeros-on s n (p + 1) (omega arith) (λ j l. let w : p + 1 + j ≡ p + suc j = omega arith in ap (bitAt s) w ∙ z (suc j) (omega arith)))
     ∙ ap (λ (u : ℕ). replicate (suc n) 0 ++ drop u B) f
 
-pub zeros-from : (s : List ℕ) (at q : Place) (n : ℕ) → posOf (length s) at + n ≤ length s * 8 → posOf (length s) q ≡ posOf (length s) at + n
+zeros-from : (s : List ℕ) (at q : Place) (n : ℕ) → posOf (length s) at + n ≤ length s * 8 → posOf (length s) q ≡ posOf (length s) at + n
     → ((j : ℕ) → j < n → bitAt s (posOf (length s) at + j) ≡ 0) → bitsFrom s at ≡ replicate n 0 ++ bitsFrom s q
 unfolding bitsFrom
 zeros-from s at q n h e z = zeros-on s n (posOf (length s) at) h z ∙ ap (λ (u : ℕ). replicate n 0 ++ drop u (bitsOf s)) (sym e)
+
+-- ---- what a window has at a place
+-- a place with bits after it
+inside : (len : ℕ) (at : Place) → posOf len at < len * 8 → (at .byte < len) × (at .bit < 8) × (posOf len at ≡ at .byte * 8 + at .bit)
+unfolding posOf
+inside len at h = go (ltb (at .byte) len) refl (ltb (at .bit) 8) refl h
+  where
+    go : (t : Bool) → ltb (at .byte) len ≡ t → (u : Bool) → ltb (at .bit) 8 ≡ u → cond t (cond u (at .byte * 8 + at .bit) (len * 8)) (len * 8) < len * 8
+        → (at .byte < len) × (at .bit < 8) × (cond t (cond u (at .byte * 8 + at .bit) (len * 8)) (len * 8) ≡ at .byte * 8 + at .bit)
+    go true e true f g = (ltb-true (at .byte) len e, ltb-true (at .bit) 8 f, refl)
+    go true e false f g = absurd (omega (arith, g))
+    go false e u f g = absurd (omega (arith, g))
+
+module _ (s : List ℕ) (at : Place) {w : Window} (h : Holds s (posOf (length s) at) w) where
+  -- n bits on
+  module _ (n : ℕ) (k : 0 < n) (l : n ≤ w .have) where
+    pub here : (at .byte < length s) × (at .bit < 8) × (posOf (length s) at ≡ at .byte * 8 + at .bit)
+    here = inside (length s) at (omega (arith, h .within))
+
+    on : {q : Place} → q ≡ placeOf (at .byte * 8 + at .bit + n) → posOf (length s) q ≡ posOf (length s) at + n
+    on e =
+        let p = here .2 in
+        ap (posOf (length s)) e ∙ ap (λ (u : ℕ). posOf (length s) (placeOf (u + n))) (sym p) ∙ pos-place (length s) (posOf (length s) at + n) (omega (arith, h .within))
+
+  -- zeros
+  pub zeros-on-at : (max n : ℕ) → Zeros w max n → 0 < n → {q : Place} → q ≡ placeOf (at .byte * 8 + at .bit + n) → bitsFrom s at ≡ replicate n 0 ++ bitsFrom s q
+  zeros-on-at max n z k e = zeros-from s at _ n (omega (arith, h .within, z .1)) (on n k (z .1) e) (z .2 s (posOf (length s) at) h)
+
+  -- a code
+  pub code-at : (a i n : ℕ) {d : ℤ} → ReadsCode w a i (c.Diff d n) → {q : Place} → q ≡ placeOf (at .byte * 8 + at .bit + n) → read d (bitsFrom s q) ≡ readCode a i (bitsFrom s at)
+  unfolding bitsFrom
+  code-at a i n {d} r e = ap (λ (u : ℕ). read d (drop u (bitsOf s))) (on n (r .0 .0) (r .0 .1) e) ∙ r .1 s (posOf (length s) at) h
+
+  pub code-cut-at : (a i : ℕ) (r : Refusal) → ReadsCode w a i (c.Refused r) → refused (told r) ≡ readCode a i (bitsFrom s at)
+  unfolding bitsFrom
+  code-cut-at a i r k = k .1 s (posOf (length s) at) h

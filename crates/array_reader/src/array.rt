@@ -1,19 +1,15 @@
 // One array of an image, looked over with no value kept.
 ghost use mathlib.Core.Path.{_≡_};
-ghost use mathlib.Core.Bool.{Bool};
-ghost use Prim.Native.Nat.{ℕ, _*_, _≤_, _<_};
-ghost use lib.ListN.{length, drop};
+ghost use Prim.Native.Nat.{_≤_};
+ghost use lib.ListN.{length};
 ghost use Rattle.bits.specs.Place.{posOf};
-ghost use Rattle.gorilla.specs.Array.{arrayNo};
-ghost use Rattle.gorilla.specs.BitList.{bitsOf, byteLen};
-ghost use Rattle.gorilla.specs.Places.{bitsFrom};
-ghost use Rattle.gorilla.specs.Reading.{readValues, readArray, thenAlign};
-ghost use Rattle.array_reader.specs.Steps.{toldArray, PassedArray, Agrees};
-use crate::Refusal;
+ghost use Rattle.gorilla.specs.BitList.{byteLen};
+ghost use Rattle.array_reader.specs.Inner.{ReadsValues, ReadsArray};
 use crate::scan::Scanned;
 use crate::scan::scan;
 use bits::BitsRead;
 use bits::Place;
+use code_reader::Refusal;
 use gorilla::Array;
 
 pub enum ArrayScan {
@@ -33,10 +29,9 @@ pub fn end_of(s: &[u8], at: Place) -> usize
 // The values of an array of a count that is not 0.
 fn scan_values(s: &[u8], at: Place, count: usize, array: Array) -> ArrayScan
     requires { ⌜ 1 ≤ count ⌝ }
-    ensures { λ r. ⌜ toldArray (now (s .entry)) array r ≡ thenAlign (readValues (arrayNo array) count (bitsFrom (now (s .entry)) at)) ⌝ }
-    ensures { λ r. ⌜ PassedArray (now (s .entry)) array r ⌝ }
+    ensures { λ r. ⌜ ReadsValues (now (s .entry)) at count array r ⌝ }
 {
-    match bits::read_bits(s, at, 64) {
+    match bits::read_from(s, at, 64) {
         BitsRead::Value(v, q) => match scan(s, q, count, array) {
             Scanned::Done(e) => ArrayScan::Found(count, signed::as_signed(v), q, end_of(s, e)),
             Scanned::Refused(r) => ArrayScan::Refused(r),
@@ -46,12 +41,11 @@ fn scan_values(s: &[u8], at: Place, count: usize, array: Array) -> ArrayScan
     }
 }
 
-// An array from a byte on, of at most max values: a count has 32 bits, so `room` says no more than that.
+// An array from a byte on, of at most max values.
 pub fn scan_array(s: &[u8], from: usize, max: usize, array: Array) -> ArrayScan
-    ensures { λ r. ⌜ ((room : ℕ → Bool) → Agrees max room → toldArray (now (s .entry)) array r ≡ thenAlign (readArray (arrayNo array) room (drop (from * 8) (bitsOf (now (s .entry)))))) ⌝ }
-    ensures { λ r. ⌜ PassedArray (now (s .entry)) array r ⌝ }
+    ensures { λ r. ⌜ ReadsArray (now (s .entry)) from max array r ⌝ }
 {
-    match bits::read_bits(s, Place { byte: from, bit: 0 }, 32) {
+    match bits::read_from(s, Place { byte: from, bit: 0 }, 32) {
         BitsRead::Value(v, p) => {
             let count = v as usize;
             if max < count {

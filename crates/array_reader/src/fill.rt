@@ -1,21 +1,17 @@
 // The values of an array that was looked over, stored into a lent array.
 ghost use mathlib.Core.Path.{_≡_};
-ghost use mathlib.Core.Bool.{true};
 ghost use mathlib.Core.List.{List, map};
 ghost use Prim.Native.Nat.{ℕ, _≤_, _<_};
 ghost use lib.ListN.{length};
 ghost use Rattle.told.specs.Over.{over};
 ghost use Rattle.signed.specs.Signed.{pattern};
 ghost use Rattle.gorilla.specs.Array.{arrayNo};
-ghost use Rattle.gorilla.specs.Parser.{isRead};
-ghost use Rattle.gorilla.specs.Reading.{readCode};
-ghost use Rattle.array_reader.specs.Steps.{arrayAt, passedAt, ahead, Stepped};
-use crate::code::CodeRead;
-use crate::code::is_near;
-use crate::code::read_far;
-use crate::code::read_near;
-use crate::scan::zero_run;
+ghost use Rattle.array_reader.specs.Inner.{arrayAt, passedAt, Stepped, CanStep};
 use bits::Place;
+use code_reader::inner::CodeRead;
+use code_reader::inner::read_code;
+use code_reader::inner::window_at;
+use code_reader::inner::zeros;
 use gorilla::Array;
 use gorilla::Track;
 use gorilla::inner::follow;
@@ -43,37 +39,33 @@ fn coast(c: Cursor) -> Cursor
 }
 
 // One value on, by the code of an index that is there, where no zeros are left. Codes of one zero bit are the common
-// ones: it finds as many as one word has.
+// ones: it finds as many as one window has.
 fn step(s: &[u8], c: Cursor, array: Array, index: usize) -> Cursor
-    requires { ⌜ (c .zeros ≡ 0) × (isRead (readCode (arrayNo array) index (ahead (now s) c)) ≡ true) ⌝ }
+    requires { ⌜ CanStep (now s) (arrayNo array) index c ⌝ }
     ensures { λ r. ⌜ Stepped (now (s .entry)) (arrayNo array) index c r ⌝ }
 {
     let at = c.at;
     let t = c.track;
-    let z = zero_run(s, at, 64);
-    if 0 < z.n {
-        let next = z.next;
+    let w = window_at(s, at);
+    let z = zeros(w, 64);
+    if 0 < z {
         return Cursor {
-            zeros: z.n - 1,
-            at: next,
+            zeros: z as usize - 1,
+            at: bits::inner::after(at, z),
             track: follow(t, 0),
         };
     }
-    if is_near(s, at) {
-        let k = read_near(s, at);
-        return Cursor {
+    match read_code(w, array, index) {
+        CodeRead::Diff(d, n) => Cursor {
             zeros: 0,
-            at: bits::inner::after(at, k.bits),
-            track: follow(t, k.diff),
-        };
-    }
-    match read_far(s, at, array, index) {
-        CodeRead::Diff(d, q) => Cursor {
-            zeros: 0,
-            at: q,
+            at: bits::inner::after(at, n),
             track: follow(t, d),
         },
-        CodeRead::Refused(_) => c,
+        CodeRead::Refused(_) => Cursor {
+            zeros: 0,
+            at: at,
+            track: t,
+        },
     }
 }
 

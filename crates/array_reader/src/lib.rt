@@ -1,34 +1,6 @@
-// One array of an image, read from any bytes: looked over first with no value kept, then filled in. All but the refusals
-// is in `inner`: the public calls that read an image stand in the crate `decoder`.
+// One array of an image, read from any bytes: looked over first with no value kept, then filled in. All of it is in `inner`:
+// the public calls that read an image stand in the crate `decoder`.
 mod array; // array.rt: an array looked over
-mod code; // code.rt: one code
 mod fill; // fill.rt: the values of an array that was looked over, stored
 pub mod inner; // inner.rt: what our own crates call
-mod prefix; // prefix.rt: the ones before a code's difference
 mod scan; // scan.rt: the codes of an array, looked over
-
-use gorilla::Array;
-
-// Why bytes are refused, with document 01's number.
-pub enum Refusal {
-    // 1: the input is empty
-    Empty,
-    // 2: the first byte is not 1; the byte
-    Version(u8),
-    // 3: under 5 bytes
-    Header,
-    // 4: an array's count is cut off
-    CountCut(Array),
-    // 10: a count above the shorter lent array
-    TooMany(Array),
-    // 5: an array's first value is cut off
-    FirstCut(Array),
-    // 6: the end before the code of an index
-    CodeEnd(Array, usize),
-    // 7: the end in the prefix of an index's code
-    PrefixCut(Array, usize),
-    // 8: the end in the difference of an index; its width
-    DiffCut(Array, usize, u8),
-    // 9: an array's count differs from the header's
-    CountDiffers(Array),
-}

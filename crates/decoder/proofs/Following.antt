@@ -21,15 +21,15 @@ use Rattle.gorilla.specs.RoundTrip.{Fit}
 use Rattle.gorilla.proofs.Bridge.{length-bitsOf}
 use Rattle.gorilla.proofs.RoundTrip.{receivedPairs, received-lengths, reads, exact}
 use Rattle.gorilla.proofs.Ignored.{following-ignored}
-use Rattle.decoder.specs.Decode.{listed, countOf, decodeRule, seqsAfter, secsAfter, lenOf, lenRule, startOf}
+use Rattle.decoder.specs.Decode.{listed, countOf, decodeRule, seqsAfter, secsAfter, imageLenOf, imageLenRule, startOf}
 use Rattle.decoder.specs.Following.{imageThen, RestFollows, DecodesBack, CallsIgnoreFollowing}
 
-image-len-is : (p : Pairs) (following : List ℕ) → Fit p → lenRule (imageThen p following) ≡ gave (length (imageBytes (p .seqs) (p .secs)))
-unfolding lenRule
+image-len-is : (p : Pairs) (following : List ℕ) → Fit p → imageLenRule (imageThen p following) ≡ gave (length (imageBytes (p .seqs) (p .secs)))
+unfolding imageLenRule
 image-len-is p following F =
     let b : List ℕ = imageBytes (p .seqs) (p .secs) in
     let e : length (b ++ following) - length (bitsOf following) / 8 ≡ length b = omega (arith, length-append b following, length-bitsOf following) in
-    ap (lenOf (b ++ following)) (reads p (λ n. true) following F refl) ∙ ap gave e
+    ap (imageLenOf (b ++ following)) (reads p (λ n. true) following F refl) ∙ ap gave e
 
 pub rest-follows : RestFollows
 rest-follows p following F =
@@ -75,17 +75,17 @@ module _ (bytes following seqs : List ℕ) (secs : List ℤ) (n : ℕ) where
   decode-followed (read p left) e h = rw (following-ignored (λ k. leb k (min (length seqs) (length secs))) bytes following left p e, e) (h, refl, refl)
   decode-followed (refused l) e h = absurd (none-given l n h)
 
-  len-followed : (r : Read Pairs) → readImage (λ k. true) bytes ≡ r → lenOf bytes r ≡ gave n → (lenRule (bytes ++ following) ≡ gave n) × (n ≤ length bytes)
-  unfolding lenRule
+  len-followed : (r : Read Pairs) → readImage (λ k. true) bytes ≡ r → imageLenOf bytes r ≡ gave n → (imageLenRule (bytes ++ following) ≡ gave n) × (n ≤ length bytes)
+  unfolding imageLenRule
   len-followed (read p left) e h =
       let k : length bytes - length left / 8 ≡ n = cc in
       let same : length (bytes ++ following) - length (left ++ bitsOf following) / 8 ≡ n =
       omega (arith, k, length-append bytes following, length-append left (bitsOf following), length-bitsOf following) in
-      (ap (lenOf (bytes ++ following)) (following-ignored (λ j. true) bytes following left p e) ∙ ap gave same, omega arith)
+      (ap (imageLenOf (bytes ++ following)) (following-ignored (λ j. true) bytes following left p e) ∙ ap gave same, omega arith)
   len-followed (refused l) e h = absurd (none-given l n h)
 
 pub calls-ignore-following : CallsIgnoreFollowing
-unfolding lenRule
+unfolding imageLenRule
 calls-ignore-following bytes following seqs secs n = (
   λ h. decode-followed bytes following seqs secs n (listed bytes seqs secs) refl h,
   λ h. let k = len-followed bytes following seqs secs n (readImage (λ j. true) bytes) refl h in

@@ -12,9 +12,9 @@ use Rattle.signed.specs.Signed.{pattern}
 use Rattle.bits.proofs.Bits.{one-byte}
 use Rattle.gorilla.specs.BitList.{bitsOf}
 use Rattle.gorilla.specs.Parser.{read, refused, takeOff}
-use Rattle.gorilla.specs.Reading.{readPart, leCount, readPairs, readImage}
+use Rattle.gorilla.specs.Reading.{readPart, leCount, readArrays, readPairs, readImage}
 use Rattle.gorilla.proofs.Bridge.{take-at, take-short}
-use Rattle.decoder.specs.Parts.{leAt, readArrays}
+use Rattle.decoder.specs.Inner.{HeaderCount}
 
 -- one byte of the header
 byte-at : (l s : List ℕ) (j : ℕ) → j < length s → getD s j 0 < 256 → takeOff l 8 0 (drop (j * 8) (bitsOf s)) ≡ read (getD s j 0) (drop (j * 8 + 8) (bitsOf s))
@@ -30,11 +30,14 @@ module _ (room : ℕ → Bool) (s : List ℕ) (b : (j : ℕ) → getD s j 0 < 25
   unfolding readPairs
   head-version h k = rw (byte-at (1 ∷ []) s 0 h (b 0)) (rw (ne-eqb (getD s 0 0) 1 k))
 
-  pub head-is : 5 ≤ length s → getD s 0 0 ≡ 1 → readImage room s ≡ readArrays room (leAt s) (drop 40 (bitsOf s))
-  unfolding readPairs leCount readArrays
-  head-is h k =
-      rw (byte-at (1 ∷ []) s 0 (omega arith) (b 0)) (rw (eq-eqb (getD s 0 0) 1 k)
-      (rw (byte-at (3 ∷ []) s 1 (omega arith) (b 1)) (rw (byte-at (3 ∷ []) s 2 (omega arith) (b 2)) (rw (byte-at (3 ∷ []) s 3 (omega arith) (b 3)) (rw (byte-at (3 ∷ []) s 4 (omega arith) (b 4)) refl)))))
+  pub le-is : 5 ≤ length s → HeaderCount s (getD s 1 0 + 256 * (getD s 2 0 + 256 * (getD s 3 0 + 256 * getD s 4 0)))
+  unfolding leCount
+  le-is h =
+      rw (byte-at (3 ∷ []) s 1 (omega arith) (b 1)) (rw (byte-at (3 ∷ []) s 2 (omega arith) (b 2)) (rw (byte-at (3 ∷ []) s 3 (omega arith) (b 3)) (rw (byte-at (3 ∷ []) s 4 (omega arith) (b 4)) refl)))
+
+  pub head-is : (n : ℕ) → 5 ≤ length s → getD s 0 0 ≡ 1 → HeaderCount s n → readImage room s ≡ readArrays room n (drop 40 (bitsOf s))
+  unfolding readPairs
+  head-is n h k e = rw (byte-at (1 ∷ []) s 0 (omega arith) (b 0)) (rw (eq-eqb (getD s 0 0) 1 k) (rw e refl))
 
   le-short : (l : List ℕ) → 0 < length s → length s < 5 → leCount l (drop 8 (bitsOf s)) ≡ refused l
   unfolding leCount
@@ -68,13 +71,10 @@ module _ (room : ℕ → Bool) (s : List ℕ) (b : (j : ℕ) → getD s j 0 < 25
 module _ (room : ℕ → Bool) (n : ℕ) (bs : List ℕ) where
   pub arrays-found : {xs ys : List ℤ} {r t : List ℕ} → readPart 0 room n bs ≡ read xs r → readPart 1 room n r ≡ read ys t
       → readArrays room n bs ≡ read (record { seqs = map pattern xs; secs = ys }) t
-  unfolding readArrays
   arrays-found p q = rw p (rw q)
 
   pub first-refused : {l : List ℕ} → readPart 0 room n bs ≡ refused l → readArrays room n bs ≡ refused l
-  unfolding readArrays
   first-refused p = rw p
 
   pub second-refused : {xs : List ℤ} {r l : List ℕ} → readPart 0 room n bs ≡ read xs r → readPart 1 room n r ≡ refused l → readArrays room n bs ≡ refused l
-  unfolding readArrays
   second-refused p q = rw p (rw q)

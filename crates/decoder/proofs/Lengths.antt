@@ -13,8 +13,8 @@ use Rattle.gorilla.specs.BitList.{bitsOf}
 use Rattle.gorilla.specs.Parser.{Read, read, refused}
 use Rattle.gorilla.specs.Reading.{Pairs, readImage}
 use Rattle.gorilla.proofs.Bridge.{length-bitsOf}
-use Rattle.decoder.specs.Decode.{lenOf, lenRule}
-use Rattle.array_reader.specs.Steps.{Agrees}
+use Rattle.decoder.specs.Decode.{imageLenOf, imageLenRule}
+use Rattle.array_reader.specs.Inner.{Agrees}
 
 -- every count of 32 bits is at most 2^32 - 1
 pub no-limit : Agrees 4294967295 (λ n. true)
@@ -25,11 +25,11 @@ pub less-left : (s : List ℕ) (e : ℕ) → e ≤ length s → e ≡ length s -
 less-left s e h = omega (arith, length-drop (e * 8) (bitsOf s), length-bitsOf s)
 
 -- an image is no longer than its bytes
-pub len-within : (s : List ℕ) {n : ℕ} → gave n ≡ lenRule s → n ≤ length s
-unfolding lenRule
+pub len-within : (s : List ℕ) {n : ℕ} → gave n ≡ imageLenRule s → n ≤ length s
+unfolding imageLenRule
 len-within s {n} h = go (readImage (λ m. true) s) h
   where
-    go : (r : Read Pairs) → gave n ≡ lenOf s r → n ≤ length s
+    go : (r : Read Pairs) → gave n ≡ imageLenOf s r → n ≤ length s
     go (read p left) g = let e : n ≡ length s - length left / 8 = same-gift g in omega arith
     go (refused l) g = given-not-refused g
 

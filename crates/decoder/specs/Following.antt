@@ -11,7 +11,7 @@ use Rattle.gorilla.specs.Format.{imageBytes}
 use Rattle.gorilla.specs.Reading.{Pairs}
 use Rattle.gorilla.specs.RoundTrip.{Fit}
 use Rattle.gorilla.specs.Wide.{none, wideOf}
-use Rattle.decoder.specs.Decode.{decodeRule, seqsAfter, secsAfter, lenRule, restRule}
+use Rattle.decoder.specs.Decode.{decodeRule, seqsAfter, secsAfter, imageLenRule, restRule}
 
 -- the bytes of pairs' image, and those after it
 abbrev pub imageThen : Pairs → List ℕ → List ℕ
@@ -20,7 +20,7 @@ imageThen p following = imageBytes (p .seqs) (p .secs) ++ following
 -- the image's length is its own, and the rest is the bytes after it
 abbrev pub RestFollows : Type 0
 RestFollows = (p : Pairs) (following : List ℕ) → Fit p
-    → (lenRule (imageThen p following) ≡ gave (length (imageBytes (p .seqs) (p .secs)))) × (restRule (imageThen p following) ≡ following)
+    → (imageLenRule (imageThen p following) ≡ gave (length (imageBytes (p .seqs) (p .secs)))) × (restRule (imageThen p following) ≡ following)
 
 -- decoded into arrays that have room, it gives its count; and the arrays then hold the pairs exactly where every difference of deltas lies in -2^31..2^31-1
 abbrev pub DecodesBack : Type 0
@@ -36,4 +36,4 @@ CallsIgnoreFollowing = (bytes following seqs : List ℕ) (secs : List ℤ) (n : 
     → (decodeRule (bytes ++ following) seqs secs ≡ gave n)
     × (seqsAfter (bytes ++ following) seqs secs ≡ seqsAfter bytes seqs secs)
     × (secsAfter (bytes ++ following) seqs secs ≡ secsAfter bytes seqs secs))
-    × (lenRule bytes ≡ gave n → (lenRule (bytes ++ following) ≡ gave n) × (restRule (bytes ++ following) ≡ restRule bytes ++ following))
+    × (imageLenRule bytes ≡ gave n → (imageLenRule (bytes ++ following) ≡ gave n) × (restRule (bytes ++ following) ≡ restRule bytes ++ following))

@@ -1,3 +1,3 @@
 pub mod Decode
 pub mod Following
-pub mod Parts
+pub mod Inner

@@ -1,16 +1,12 @@
 // The header and both arrays of an image, looked over with no value kept.
 ghost use mathlib.Core.Path.{_≡_};
-ghost use mathlib.Core.Bool.{Bool};
-ghost use Prim.Native.Nat.{ℕ, _≤_, _<_};
-ghost use lib.ListN.{length, drop};
-ghost use Rattle.gorilla.specs.BitList.{bitsOf};
-ghost use Rattle.gorilla.specs.Reading.{readImage};
-ghost use Rattle.array_reader.specs.Steps.{Agrees};
-ghost use Rattle.decoder.specs.Parts.{leAt, readArrays, toldImage, PassedImage};
-use array_reader::Refusal;
+ghost use Prim.Native.Nat.{_≤_, _<_};
+ghost use lib.ListN.{length};
+ghost use Rattle.decoder.specs.Inner.{HeaderCount, ReadsArrays, ReadsImage};
 use array_reader::inner::ArrayScan;
 use array_reader::inner::scan_array;
 use bits::Place;
+use code_reader::Refusal;
 use gorilla::Array;
 
 // An image that can be filled in: how many pairs, where their values stand, and the byte after it.
@@ -37,15 +33,14 @@ fn wide(x: u8) -> usize
 // The header's pair count, the least significant byte first.
 fn header_count(s: &[u8]) -> usize
     requires { ⌜ 5 ≤ length (now s) ⌝ }
-    ensures { λ r. ⌜ r ≡ leAt (now (s .entry)) ⌝ }
+    ensures { λ r. ⌜ HeaderCount (now (s .entry)) r ⌝ }
 {
     wide(s[1]) + 256 * (wide(s[2]) + 256 * (wide(s[3]) + 256 * wide(s[4])))
 }
 
 // Both arrays, of at most max values, each of the count n that the header says.
 fn scan_arrays(s: &[u8], max: usize, n: usize) -> ImageScan
-    ensures { λ r. ⌜ ((room : ℕ → Bool) → Agrees max room → toldImage (now (s .entry)) r ≡ readArrays room n (drop 40 (bitsOf (now (s .entry))))) ⌝ }
-    ensures { λ r. ⌜ PassedImage (now (s .entry)) max r ⌝ }
+    ensures { λ r. ⌜ ReadsArrays (now (s .entry)) max n r ⌝ }
 {
     match scan_array(s, 5, max, Array::Sequences) {
         ArrayScan::Found(c0, f0, q0, e0) => {
@@ -75,8 +70,7 @@ fn scan_arrays(s: &[u8], max: usize, n: usize) -> ImageScan
 
 // The parts of an image of at most max pairs.
 pub fn scan_image(s: &[u8], max: usize) -> ImageScan
-    ensures { λ r. ⌜ ((room : ℕ → Bool) → Agrees max room → toldImage (now (s .entry)) r ≡ readImage room (now (s .entry))) ⌝ }
-    ensures { λ r. ⌜ PassedImage (now (s .entry)) max r ⌝ }
+    ensures { λ r. ⌜ ReadsImage (now (s .entry)) max r ⌝ }
 {
     if s.len() == 0 {
         return ImageScan::Refused(Refusal::Empty);

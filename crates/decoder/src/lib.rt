@@ -4,7 +4,7 @@ mod image; // image.rt: the header and both arrays, looked over
 pub mod inner; // inner.rt: what our own crates call
 mod reader; // reader.rt: the public calls
 
-pub use array_reader::Refusal;
+pub use code_reader::Refusal;
 pub use reader::decode;
 pub use reader::image_len;
 pub use reader::rest;

@@ -1,7 +1,7 @@
 // The public calls. Each looks an image over before it stores or answers anything.
 ghost use mathlib.Core.Path.{_≡_};
 ghost use Prim.Native.Nat.{min};
-ghost use Rattle.decoder.specs.Decode.{toldDecode, decodeRule, seqsAfter, secsAfter, toldLen, lenRule, restRule, restFrom, onwards};
+ghost use Rattle.decoder.specs.Decode.{Decodes, toldImageLen, imageLenRule, restRule, restFrom, onwards};
 use crate::Decoded;
 use crate::ImageLen;
 use crate::image::ImageScan;
@@ -20,9 +20,7 @@ fn least(a: usize, b: usize) -> usize
 
 // The pairs of an image, into two lent arrays: the list reader. Places from the count on keep what they held.
 pub fn decode(bytes: &[u8], seqs: &mut [u64], secs: &mut [i64]) -> Decoded
-    ensures answer { λ r. ⌜ toldDecode r ≡ decodeRule (now (bytes .entry)) (now (seqs .entry)) (now (secs .entry)) ⌝ }
-    ensures seqs { λ r. ⌜ now (seqs .exit) ≡ seqsAfter (now (bytes .entry)) (now (seqs .entry)) (now (secs .entry)) ⌝ }
-    ensures secs { λ r. ⌜ now (secs .exit) ≡ secsAfter (now (bytes .entry)) (now (seqs .entry)) (now (secs .entry)) ⌝ }
+    ensures { λ r. ⌜ Decodes (now (bytes .entry)) (now (seqs .entry)) (now (secs .entry)) r (now (seqs .exit)) (now (secs .exit)) ⌝ }
 {
     let max = least(seqs.len(), secs.len());
     match scan_image(bytes, max) {
@@ -38,7 +36,7 @@ pub fn decode(bytes: &[u8], seqs: &mut [u64], secs: &mut [i64]) -> Decoded
 
 // An image's length. No array is lent, so no count is too great.
 pub fn image_len(bytes: &[u8]) -> ImageLen
-    ensures { λ r. ⌜ toldLen r ≡ lenRule (now (bytes .entry)) ⌝ }
+    ensures { λ r. ⌜ toldImageLen r ≡ imageLenRule (now (bytes .entry)) ⌝ }
 {
     match scan_image(bytes, MOST) {
         ImageScan::Found(p) => ImageLen::Bytes(p.end),

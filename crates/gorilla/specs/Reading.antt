@@ -7,7 +7,7 @@ use lib.ListN.{length, getD, drop}
 use lib.IntN.{ℤ, pos}
 use Rattle.signed.specs.Signed.{signed, pattern, addS}
 use Rattle.gorilla.specs.Rows.{widths, decoded}
-use Rattle.gorilla.specs.Parser.{Read, read, refused, Reader, _>>=_, _>>_, give, require, takeBits, align}
+use Rattle.gorilla.specs.Parser.{Read, read, refused, Reader, _>>=_, _>>_, give, require, takeBits, align, readOr}
 use Rattle.gorilla.specs.BitList.{bitsOf}
 
 -- 6: no bit of a code is there; 7: its prefix is cut off
@@ -66,11 +66,6 @@ leCount l = do
   b₃ ← takeBits 8 l
   give (b₀ + 256 * (b₁ + 256 * (b₂ + 256 * b₃)))
 
--- what was read, and the next whole byte
-abbrev pub thenAlign : {A : Type 0} → Read A → Read A
-thenAlign (read x bs) = read x (drop (length bs % 8) bs)
-thenAlign (refused l) = refused l
-
 -- array a of an image whose header says n
 unfoldable pub readPart : ℕ → (ℕ → Bool) → ℕ → Reader (List ℤ)
 readPart a room n = do
@@ -83,15 +78,25 @@ pub record Pairs : Type 0 where
   pub seqs : List ℕ
   pub secs : List ℤ
 
+-- both arrays, of the count n that the header says
+abbrev pub readArrays : (ℕ → Bool) → ℕ → Reader Pairs
+readArrays room n = do
+  seqs ← readPart 0 room n
+  secs ← readPart 1 room n
+  give (record { seqs = map pattern seqs; secs = secs })
+
+-- version 1, the pair count, both arrays
 unfoldable pub readPairs : (ℕ → Bool) → Reader Pairs
 readPairs room = do
   v ← takeBits 8 (1 ∷ [])
   require (eqb v 1) (2 ∷ v ∷ [])
   n ← leCount (3 ∷ [])
-  seqs ← readPart 0 room n
-  secs ← readPart 1 room n
-  give (record { seqs = map pattern seqs; secs = secs })
+  readArrays room n
 
 -- an image: its pairs, and the bits of the bytes after it
 abbrev pub readImage : (ℕ → Bool) → List ℕ → Read Pairs
 readImage room bytes = readPairs room (bitsOf bytes)
+
+-- the pairs that were read; none where the reader refused
+abbrev pub pairsRead : Read Pairs → Pairs
+pairsRead r = readOr (record { seqs = []; secs = [] }) r

@@ -12,9 +12,10 @@ use Rattle.told.specs.Over.{over}
 use Rattle.told.proofs.Unique.{given-not-refused, same-list, same-gift}
 use Rattle.gorilla.specs.Parser.{Read, read, refused}
 use Rattle.gorilla.specs.Reading.{Pairs, readImage}
-use Rattle.array_reader.specs.Refusal.{numbers}
-use Rattle.decoder.specs.Decode.{toldDecode, listed, countOf, decodeRule, seqsOver, secsOver, seqsAfter, secsAfter}
-use Rattle.array_reader.specs.declared.Refusal.{Refusal}
+use Rattle.code_reader.specs.Refusal.{told}
+use Rattle.decoder.specs.Decode.{Decodes, toldDecode, listed, countOf}
+use Rattle.decoder.proofs.Stored.{seqsOver, secsOver}
+use Rattle.code_reader.specs.declared.Refusal.{Refusal}
 use Rattle.decoder.specs.declared.Decoded.{Decoded}
 use Rattle.decoder.specs.declared.Decoded.the-variants as d
 use Rattle.report.specs.Ascii.{ascii}
@@ -31,7 +32,7 @@ module _ (a : Decoded) (seqs : List ℕ) (secs : List ℤ) where
   pub count-text : {n : ℕ} → a ≡ d.Count n → answerText a seqs secs ≡ entriesText seqs secs n
   count-text e = ap (λ (x : Decoded). answerText x seqs secs) e
 
-  pub refusal-text : {r : Refusal} → a ≡ d.Refused r → answerText a seqs secs ≡ refusedText (numberOf (numbers r))
+  pub refusal-text : {r : Refusal} → a ≡ d.Refused r → answerText a seqs secs ≡ refusedText (numberOf (told r))
   refusal-text e = ap (λ (x : Decoded). answerText x seqs secs) e
 
 -- ---- how long it is
@@ -94,7 +95,7 @@ listed-is input s₀ t₀ ls lt =
 
 module _ (input s₀ : List ℕ) (t₀ : List ℤ) (a : Decoded) (s : List ℕ) (t : List ℤ) where
   pub listing-answered : length s₀ ≡ 1024 → length t₀ ≡ 1024 → length input ≤ 16384 → length s ≡ 1024
-      → (toldDecode a ≡ decodeRule input s₀ t₀) × (s ≡ seqsAfter input s₀ t₀) × (t ≡ secsAfter input s₀ t₀)
+      → Decodes input s₀ t₀ a s t
       → Held a s t × (answerText a s t ≡ listingOf input)
   listing-answered ls lt h l k =
       let e = listed-is input s₀ t₀ ls lt in

@@ -7,7 +7,7 @@ use lib.IntN.{ℤ}
 use lib.ListN.{length, getD}
 use Rattle.gorilla.specs.Parser.{Read, read, refused}
 use Rattle.gorilla.specs.Reading.{Pairs, readImage}
-use Rattle.array_reader.specs.Refusal.{numbers}
+use Rattle.code_reader.specs.Refusal.{told}
 use Rattle.decoder.specs.declared.Decoded.{Decoded}
 use Rattle.decoder.specs.declared.Decoded.the-variants as d
 use Rattle.report.specs.Text.{entriesText, refusedText}
@@ -28,7 +28,7 @@ listingOf input = cond (ltb 16384 (length input)) (refusedText 22) (readText (re
 -- the text of what the list reader answered, with the arrays that it filled
 abbrev pub answerText : Decoded → List ℕ → List ℤ → List ℕ
 answerText (d.Count n) seqs secs = entriesText seqs secs n
-answerText (d.Refused r) seqs secs = refusedText (numberOf (numbers r))
+answerText (d.Refused r) seqs secs = refusedText (numberOf (told r))
 
 -- the pairs that were answered stand in the arrays, and there are 1,024 at most
 abbrev pub Held : Decoded → List ℕ → List ℤ → Type 0

@@ -1,11 +1,11 @@
 // The number of a refusal, which is all that a listing tells of it.
 ghost use mathlib.Core.Path.{_≡_};
 ghost use Rattle.report.specs.Listing.{numberOf};
-ghost use Rattle.array_reader.specs.Refusal.{numbers};
+ghost use Rattle.code_reader.specs.Refusal.{told};
 use decoder::Refusal;
 
 pub fn number(r: Refusal) -> u64
-    ensures { λ n. ⌜ n ≡ numberOf (numbers r) ⌝ }
+    ensures { λ n. ⌜ n ≡ numberOf (told r) ⌝ }
 {
     match r {
         Refusal::Empty => 1,

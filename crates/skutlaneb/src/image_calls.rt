@@ -44,7 +44,7 @@ pub extern "C" fn skut_decode(bytes: &[u8], seqs: &mut [u64], secs: &mut [i64]) 
 // Gives the image's length: what follows it starts there.
 #[no_mangle]
 pub extern "C" fn skut_image_len(bytes: &[u8]) -> Answer
-    ensures { λ r. ⌜ r ≡ ofCount (decoding.lenRule (now (bytes .entry))) ⌝ }
+    ensures { λ r. ⌜ r ≡ ofCount (decoding.imageLenRule (now (bytes .entry))) ⌝ }
 {
     inner::of_image_len(decoder::image_len(bytes))
 }

@@ -13,7 +13,7 @@ use Rattle.told.specs.Told.{Told, gave, refused}
 use Rattle.told.specs.Over.{over}
 use Rattle.gorilla.specs.Parser.{Read, read}
 use Rattle.gorilla.specs.Parser as parser
-use Rattle.gorilla.specs.Reading.{Pairs, readImage}
+use Rattle.gorilla.specs.Reading.{Pairs, readImage, pairsRead}
 use Rattle.gorilla.proofs.Counts.{image-counts}
 use Rattle.tracker.specs.Refusal.{ifGood}
 use Rattle.tracker.specs.Settings.{freshTable}
@@ -23,8 +23,9 @@ use Rattle.tracker.specs.declared.LastRecorded.{LastRecorded}
 use Rattle.tracker.specs.declared.LastRecorded.the-variants.{Never, At}
 use Rattle.tracker.proofs.Kept.{kept-at, pairs-kept}
 use Rattle.decoder.specs.Decode.{listed, countOf, decodeRule}
+use Rattle.decoder.proofs.Stored as stored
 use Rattle.decoder.specs.Decode as decode
-use Rattle.store.specs.Restore.{lastOf, settledOf, readTable, judged, pairsRead, restoreOf}
+use Rattle.store.specs.Restore.{lastOf, settledOf, readTable, judged, restoreOf}
 
 -- what was read into arrays xs and ys, of which n places are values now
 pub record Loaded (bytes xs : List ℕ) (ys : List ℤ) (n : ℕ) : Type 0 where
@@ -65,16 +66,16 @@ module _ (bytes S : List ℕ) (T : List ℤ) (hs : length S ≡ 8192) (ht : leng
 
   pub loaded : (n : ℕ) (S′ : List ℕ) (T′ : List ℤ) → gave n ≡ decodeRule bytes S T → S′ ≡ decode.seqsAfter bytes S T → T′ ≡ decode.secsAfter bytes S T → Loaded bytes S′ T′ n
   loaded n S′ T′ g es et =
-      go (readTable bytes) refl (g ∙ ap countOf listed-is) (es ∙ ap (decode.seqsOver S) listed-is) (et ∙ ap (decode.secsOver T) listed-is)
+      go (readTable bytes) refl (g ∙ ap countOf listed-is) (es ∙ ap (stored.seqsOver S) listed-is) (et ∙ ap (stored.secsOver T) listed-is)
     where
-      go : (r : Read Pairs) → readTable bytes ≡ r → gave n ≡ countOf (readTable bytes) → S′ ≡ decode.seqsOver S (readTable bytes) → T′ ≡ decode.secsOver T (readTable bytes) → Loaded bytes S′ T′ n
+      go : (r : Read Pairs) → readTable bytes ≡ r → gave n ≡ countOf (readTable bytes) → S′ ≡ stored.seqsOver S (readTable bytes) → T′ ≡ stored.secsOver T (readTable bytes) → Loaded bytes S′ T′ n
       go (read p left) e h f k =
           let counts = image-counts (λ m. leb m 8192) bytes e in
           let c : _≡_ {A = Told ℕ} (gave n) (gave (length (p .secs))) = h ∙ ap countOf e in
           let b : length (p .secs) ≡ n = sym cc in
           let a : length (p .seqs) ≡ n = counts .0 ∙ b in
-          let s : S′ ≡ over (p .seqs) S = f ∙ ap (decode.seqsOver S) e in
-          let t : T′ ≡ over (p .secs) T = k ∙ ap (decode.secsOver T) e in
+          let s : S′ ≡ over (p .seqs) S = f ∙ ap (stored.seqsOver S) e in
+          let t : T′ ≡ over (p .secs) T = k ∙ ap (stored.secsOver T) e in
           record {
             room-seqs = omega (arith, ap length s, length-append (p .seqs) (drop (length (p .seqs)) S));
             room-secs = omega (arith, ap length t, length-append (p .secs) (drop (length (p .secs)) T));

@@ -17,10 +17,10 @@ use Rattle.encoder.specs.Encode as encoder
 use Rattle.encoder.specs.declared.Refusal as enc
 use Rattle.encoder.specs.declared.Refusal.the-variants as ev
 use Rattle.encoder.proofs.Unique.{refusal-told}
-use Rattle.array_reader.specs.Refusal.{numbers}
-use Rattle.array_reader.specs.declared.Refusal as dec
-use Rattle.array_reader.specs.declared.Refusal.the-variants as dv
-use Rattle.array_reader.proofs.Unique.{one-refusal}
+use Rattle.code_reader.specs.Refusal as reader
+use Rattle.code_reader.specs.declared.Refusal as dec
+use Rattle.code_reader.specs.declared.Refusal.the-variants as dv
+use Rattle.code_reader.proofs.Unique.{one-refusal}
 use Rattle.store.specs.Save.{toldSave, saveOf, saveStrictOf, savedIn}
 use Rattle.store.specs.Restore.{toldRestore, restoreOf, seqsAfter, secsAfter}
 use Rattle.store.specs.declared.Saved.{Saved}
@@ -47,7 +47,7 @@ encoder-number ev.TooMany = omega arith
 encoder-number (ev.Wide a i) = omega arith
 encoder-number (ev.Room n) = omega arith
 
-reader-number : (r : dec.Refusal) → number (numbers r) ≤ 10
+reader-number : (r : dec.Refusal) → number (reader.told r) ≤ 10
 reader-number dv.Empty = omega arith
 reader-number (dv.Version b) = omega arith
 reader-number dv.Header = omega arith
@@ -83,9 +83,9 @@ restore-told (rv.Table t) (rv.Refused r) h = given-not-refused h
 restore-told (rv.Table t) (rv.NotDecoded r) h = given-not-refused h
 restore-told (rv.Refused r) (rv.Table u) h = given-not-refused (sym h)
 restore-told (rv.Refused r) (rv.Refused q) h = ap rv.Refused (table-told r q (same-list h))
-restore-told (rv.Refused r) (rv.NotDecoded q) h = apart (numbers q) (told r) (omega (arith, table-number r .0, reader-number q)) (sym h)
+restore-told (rv.Refused r) (rv.NotDecoded q) h = apart (reader.told q) (told r) (omega (arith, table-number r .0, reader-number q)) (sym h)
 restore-told (rv.NotDecoded r) (rv.Table u) h = given-not-refused (sym h)
-restore-told (rv.NotDecoded r) (rv.Refused q) h = apart (numbers r) (told q) (omega (arith, table-number q .0, reader-number r)) h
+restore-told (rv.NotDecoded r) (rv.Refused q) h = apart (reader.told r) (told q) (omega (arith, table-number q .0, reader-number r)) h
 restore-told (rv.NotDecoded r) (rv.NotDecoded q) h = ap rv.NotDecoded (one-refusal r q (same-list h))
 
 -- a save that fits a rule: its answer, and the buffer

@@ -6,17 +6,17 @@ use lib.Dec.{leb, ltb, eqb}
 use lib.ListN.{length, getD}
 use lib.IntN.{ℤ, pos}
 use Rattle.told.specs.Told.{Told, gave, refused}
-use Rattle.told.specs.Over.{over}
+use Rattle.told.specs.Over.{filled}
 use Rattle.gorilla.specs.Parser.{Read, read}
 use Rattle.gorilla.specs.Parser as parser
-use Rattle.gorilla.specs.Reading.{Pairs, readImage}
+use Rattle.gorilla.specs.Reading.{Pairs, readImage, pairsRead}
 use Rattle.tracker.specs.Refusal.{told, ifGood}
 use Rattle.tracker.specs.Settings.{defaultCapacity, defaultIntervalSecs, freshTable}
 use Rattle.tracker.specs.Table.{pairsOf}
 use Rattle.tracker.specs.declared.SequenceTracker.{SequenceTracker}
 use Rattle.tracker.specs.declared.LastRecorded.{LastRecorded}
 use Rattle.tracker.specs.declared.LastRecorded.the-variants.{Never, At}
-use Rattle.array_reader.specs.Refusal.{numbers}
+use Rattle.code_reader.specs.Refusal as reader
 use Rattle.store.specs.declared.Restored.{Restored}
 use Rattle.store.specs.declared.Restored.the-variants.{Table, Refused, NotDecoded}
 
@@ -24,7 +24,7 @@ use Rattle.store.specs.declared.Restored.the-variants.{Table, Refused, N
 abbrev pub toldRestore : Restored → Told SequenceTracker
 toldRestore (Table t) = gave t
 toldRestore (Refused r) = refused (told r)
-toldRestore (NotDecoded r) = refused (numbers r)
+toldRestore (NotDecoded r) = refused (reader.told r)
 
 -- the last of n seconds, none if empty
 abbrev pub lastOf : List ℤ → ℕ → LastRecorded
@@ -47,16 +47,7 @@ judged (parser.refused what) = refused what
 abbrev pub restoreOf : List ℕ → List ℕ → List ℤ → Told SequenceTracker
 restoreOf bytes seqs secs = cond (ltb (length seqs) 8192 || ltb (length secs) 8192) (refused (14 ∷ [])) (judged (readTable bytes))
 
--- the pairs that were read; none where the reader refused
-abbrev pub pairsRead : Read Pairs → Pairs
-pairsRead (read p left) = p
-pairsRead (parser.refused what) = record { seqs = []; secs = [] }
-
--- a lent array after what is told: the values, and past them what stood there; refused, as before
-abbrev pub filled : {A : Type 0} → Told SequenceTracker → List A → List A → List A
-filled (gave t) values old = over values old
-filled (refused what) values old = old
-
+-- a lent array after what is told: the pairs' values, and past them what stood there; refused, as before
 abbrev pub seqsAfter : List ℕ → Told SequenceTracker → List ℕ → List ℕ
 seqsAfter bytes what old = filled what (pairsRead (readTable bytes) .seqs) old
 

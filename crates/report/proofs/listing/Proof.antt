@@ -36,7 +36,7 @@ answered-at : (dc : tie.After-decode) → Held (dc .decode .result) (dc .decode 
 answered-at dc =
     let h = dc .decode .ensures in
     listing-answered (dc .before .before .before .before .before .args .input .now) _ _ (dc .decode .result) (dc .decode .last .1 .0) (dc .decode .last .1 .1 .0)
-    refl refl (dc .before .before .before .if1 .left) (search needs) (h .0, h .1 .0, h .1 .1)
+    refl refl (dc .before .before .before .if1 .left) (search needs) h
 
 put-answer-requires : tie.Need-put-answer-requires
 put-answer-requires c κs = (answered-at (c .before .before .before .before .before)) .0

@@ -16,29 +16,29 @@ use Rattle.gorilla.specs.Array.{arrayNo}
 use Rattle.gorilla.specs.BitList.{bitsOf}
 use Rattle.gorilla.specs.Parser.{read, takeOff}
 use Rattle.gorilla.specs.Places.{bitsFrom}
-use Rattle.gorilla.specs.Reading.{readValues, readArray, thenAlign}
+use Rattle.gorilla.specs.Reading.{readValues, readArray}
 use Rattle.gorilla.proofs.Readers.{took, ended}
-use Rattle.array_reader.specs.Steps.{arrayAt, passedAt, Agrees}
+use Rattle.array_reader.specs.Inner.{arrayAt, aligned, passedAt, Agrees}
 use Rattle.array_reader.proofs.Arrays.{array-some, array-many, array-cut, from-byte, none-found, end-within}
 use Rattle.array_reader.proofs.array.scan_array.Statement.{statement}
 use Rattle.array_reader.proofs.array.scan_array.Tie as tie
 
-abbrev st-of : tie.After-read-bits → tie.Start
+abbrev st-of : tie.After-read-from → tie.Start
 st-of ar = ar .before .before
 
-abbrev s-of : tie.After-read-bits → List ℕ
+abbrev s-of : tie.After-read-from → List ℕ
 s-of ar = (st-of ar) .args .s .now
 
-abbrev a-of : tie.After-read-bits → ℕ
+abbrev a-of : tie.After-read-from → ℕ
 a-of ar = arrayNo ((st-of ar) .args .array)
 
-abbrev at-of : tie.After-read-bits → Place
+abbrev at-of : tie.After-read-from → Place
 at-of ar = record { byte = (st-of ar) .args .from; bit = 0 }
 
-abbrev bits-of : tie.After-read-bits → List ℕ
+abbrev bits-of : tie.After-read-from → List ℕ
 bits-of ar = drop ((st-of ar) .args .from * 8) (bitsOf (s-of ar))
 
-here : (ar : tie.After-read-bits) → bitsFrom (s-of ar) (at-of ar) ≡ bits-of ar
+here : (ar : tie.After-read-from) → bitsFrom (s-of ar) (at-of ar) ≡ bits-of ar
 here ar = from-byte (s-of ar) ((st-of ar) .args .from)
 
 -- the count
@@ -51,25 +51,25 @@ p-of av = av .v .given .0 .1 .0
 count-is : (av : tie.After-v) → takeOff (4 ∷ a-of (av .before .before) ∷ []) 32 0 (bits-of (av .before .before)) ≡ read (v-of av) (bitsFrom (s-of (av .before .before)) (p-of av))
 count-is av =
     let ar = av .before .before in
-    ap (takeOff (4 ∷ a-of ar ∷ []) 32 0) (sym (here ar)) ∙ took (s-of ar) (at-of ar) 32 (4 ∷ a-of ar ∷ []) (ap toldRead (sym (av .v .given .1)) ∙ ar .read-bits .ensures)
+    ap (takeOff (4 ∷ a-of ar ∷ []) 32 0) (sym (here ar)) ∙ took (s-of ar) (at-of ar) 32 (4 ∷ a-of ar ∷ []) (ap toldRead (sym (av .v .given .1)) ∙ ar .read-from .ensures)
 
 -- it has 32 bits
 count-lt : (av : tie.After-v) → v-of av < 2 ^ 32
 count-lt av =
     let ar = av .before .before in
-    let g = given (s-of ar) (at-of ar) 32 (ap toldRead (sym (av .v .given .1)) ∙ ar .read-bits .ensures) in
+    let g = given (s-of ar) (at-of ar) 32 (ap toldRead (sym (av .v .given .1)) ∙ ar .read-from .ensures) in
     subst (λ (u : ℕ). u < 2 ^ 32) (sym (g .value)) (bitsAt-lt (s-of ar) (posOf (length (s-of ar)) (at-of ar)) 32)
 
 values-is : (e : tie.Else1) (room : ℕ → Bool) → Agrees ((st-of (e .before .before .before .before)) .args .max) room
-    → thenAlign (readArray (a-of (e .before .before .before .before)) room (bits-of (e .before .before .before .before)))
-    ≡ thenAlign (readValues (a-of (e .before .before .before .before)) (v-of (e .before .before)) (bitsFrom (s-of (e .before .before .before .before)) (p-of (e .before .before))))
+    → aligned (readArray (a-of (e .before .before .before .before)) room (bits-of (e .before .before .before .before)))
+    ≡ aligned (readValues (a-of (e .before .before .before .before)) (v-of (e .before .before)) (bitsFrom (s-of (e .before .before .before .before)) (p-of (e .before .before))))
 values-is e room agrees =
     let av = e .before .before in
     let ar = av .before .before in
-    ap thenAlign (array-some (a-of ar) room (bits-of ar) (count-is av) (agrees (v-of av) (count-lt av) ∙ le-leb (v-of av) ((st-of ar) .args .max) (e .if1 .left)))
+    ap aligned (array-some (a-of ar) room (bits-of ar) (count-is av) (agrees (v-of av) (count-lt av) ∙ le-leb (v-of av) ((st-of ar) .args .max) (e .if1 .left)))
 
-read-bits-requires : tie.Need-read-bits-requires
-read-bits-requires c κs = search needs
+read-from-requires : tie.Need-read-from-requires
+read-from-requires c κs = search needs
 
 enum-known-v : tie.Need-enum-known-v
 enum-known-v c = search needs
@@ -78,7 +78,7 @@ returns : tie.Need-returns
 returns c =
     let av = c .before .before in
     let ar = av .before .before in
-    (λ room agrees. sym (ap thenAlign (array-many (a-of ar) room (bits-of ar) (count-is av) (agrees (v-of av) (count-lt av) ∙ lt-leb (v-of av) ((st-of ar) .args .max) (c .if1 .taken)))), tt)
+    (λ room agrees. sym (ap aligned (array-many (a-of ar) room (bits-of ar) (count-is av) (agrees (v-of av) (count-lt av) ∙ lt-leb (v-of av) ((st-of ar) .args .max) (c .if1 .taken)))), tt)
 
 end-of-requires : tie.Need-end-of-requires
 end-of-requires c κs = search needs
@@ -109,14 +109,14 @@ returns-3 c = (λ room agrees. c .scan-values .ensures .0 ∙ sym (values-is (c 
 returns-4 : tie.Need-returns-4
 returns-4 c =
     let ar = c .before .before in
-    let w : 64 < 32 = too-wide (s-of ar) (at-of ar) 32 (ap toldRead (sym (c .enum-told .given .1)) ∙ ar .read-bits .ensures) in
+    let w : 64 < 32 = too-wide (s-of ar) (at-of ar) 32 (ap toldRead (sym (c .enum-told .given .1)) ∙ ar .read-from .ensures) in
     absurd (omega arith)
 
 returns-5 : tie.Need-returns-5
 returns-5 c =
     let ar = c .before .before in (
-      λ room agrees. sym (ap thenAlign (array-cut (a-of ar) room (bits-of ar)
-          (ap (takeOff (4 ∷ a-of ar ∷ []) 32 0) (sym (here ar)) ∙ ended (s-of ar) (at-of ar) 32 (4 ∷ a-of ar ∷ []) (ap toldRead (sym (c .enum-told2 .given .1)) ∙ ar .read-bits .ensures)))),
+      λ room agrees. sym (ap aligned (array-cut (a-of ar) room (bits-of ar)
+          (ap (takeOff (4 ∷ a-of ar ∷ []) 32 0) (sym (here ar)) ∙ ended (s-of ar) (at-of ar) 32 (4 ∷ a-of ar ∷ []) (ap toldRead (sym (c .enum-told2 .given .1)) ∙ ar .read-from .ensures)))),
       tt,
     )
 
@@ -124,7 +124,7 @@ pub scan-array-spec : {M : Type 1} → statement M
 scan-array-spec =
     tie.close
     (tie.spec
-    read-bits-requires
+    read-from-requires
     enum-known-v
     returns
     end-of-requires

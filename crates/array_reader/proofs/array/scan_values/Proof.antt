@@ -9,31 +9,32 @@ use mir.Val.{SFits, toZ, ofZ}
 use mir.Facts.{toZ-ofZ}
 use Rattle.bits.specs.Read.{toldRead}
 use Rattle.bits.specs.declared.Place.{Place}
-use Rattle.bits.proofs.Answers.{too-wide}
+use Rattle.bits.specs.Place.{posOf}
+use Rattle.bits.proofs.Answers.{given, too-wide}
 use Rattle.gorilla.specs.Array.{arrayNo}
 use Rattle.gorilla.specs.BitList.{bitsOf}
 use Rattle.gorilla.specs.Parser.{read, takeOff, shape}
 use Rattle.gorilla.specs.Places.{bitsFrom}
 use Rattle.gorilla.specs.Reading.{readCodes}
 use Rattle.gorilla.proofs.Readers.{took, ended}
-use Rattle.array_reader.specs.Steps.{toldScan, arrayAt}
+use Rattle.array_reader.specs.Inner.{toldScan, arrayAt}
 use Rattle.array_reader.proofs.Arrays.{values-found, values-passed, values-cut, values-short, end-within}
 use Rattle.array_reader.proofs.array.scan_values.Statement.{statement}
 use Rattle.array_reader.proofs.array.scan_values.Tie as tie
 
-abbrev st-of : tie.After-read-bits → tie.Start
+abbrev st-of : tie.After-read-from → tie.Start
 st-of ar = ar .before .before
 
-abbrev s-of : tie.After-read-bits → List ℕ
+abbrev s-of : tie.After-read-from → List ℕ
 s-of ar = (st-of ar) .args .s .now
 
-abbrev a-of : tie.After-read-bits → ℕ
+abbrev a-of : tie.After-read-from → ℕ
 a-of ar = arrayNo ((st-of ar) .args .array)
 
-abbrev n-of : tie.After-read-bits → ℕ
+abbrev n-of : tie.After-read-from → ℕ
 n-of ar = (st-of ar) .args .count
 
-abbrev here-of : tie.After-read-bits → List ℕ
+abbrev here-of : tie.After-read-from → List ℕ
 here-of ar = bitsFrom (s-of ar) ((st-of ar) .args .at)
 
 abbrev q-of : tie.After-v → Place
@@ -42,16 +43,23 @@ q-of av = av .v .given .0 .1 .0
 first-is : (av : tie.After-v) → takeOff (5 ∷ a-of (av .before .before) ∷ []) 64 0 (here-of (av .before .before)) ≡ read (av .v .given .0 .0) (bitsFrom (s-of (av .before .before)) (q-of av))
 first-is av =
     let ar = av .before .before in
-    took (s-of ar) ((st-of ar) .args .at) 64 (5 ∷ a-of ar ∷ []) (ap toldRead (sym (av .v .given .1)) ∙ ar .read-bits .ensures)
+    took (s-of ar) ((st-of ar) .args .at) 64 (5 ∷ a-of ar ∷ []) (ap toldRead (sym (av .v .given .1)) ∙ ar .read-from .ensures)
 
-read-bits-requires : tie.Need-read-bits-requires
-read-bits-requires c κs = search needs
+-- its bytes are eight at least
+long : (av : tie.After-v) → 8 ≤ length (s-of (av .before .before))
+long av =
+    let ar = av .before .before in
+    let g = given (s-of ar) ((st-of ar) .args .at) 64 (ap toldRead (sym (av .v .given .1)) ∙ ar .read-from .ensures) in
+    omega (arith, g .within)
+
+read-from-requires : tie.Need-read-from-requires
+read-from-requires c κs = search needs
 
 enum-known-v : tie.Need-enum-known-v
 enum-known-v c = search needs
 
 scan-requires : tie.Need-scan-requires
-scan-requires c κs = search needs
+scan-requires c κs = long (c .before)
 
 enum-known-e : tie.Need-enum-known-e
 enum-known-e c = search needs
@@ -83,7 +91,7 @@ returns c =
     let k : read tt (bitsFrom (s-of ar) e) ≡ shape (readCodes (a-of ar) (n-of ar - 1) 1 (bitsFrom (s-of ar) (q-of av))) = ap (toldScan (s-of ar)) (sym (ae .e .given .1)) ∙ sc .scan .ensures in (
       ap (λ (u : ℕ). read (arrayAt (s-of ar) (a-of ar) (n-of ar) (toZ w64 (ofZ w64 (ah .as-signed .result))) (q-of av)) (drop (u * 8) (bitsOf (s-of ar)))) (c .end-of .ensures)
           ∙ values-found (s-of ar) (a-of ar) (here-of ar) (n-of ar) (q-of av) e ((st-of ar) .pre) (toZ-ofZ f ∙ ah .as-signed .ensures) (first-is av) k,
-      (values-passed (s-of ar) (a-of ar) (here-of ar) (n-of ar) (q-of av) e ((st-of ar) .pre) k, subst (λ (u : ℕ). u ≤ length (s-of ar)) (sym (c .end-of .ensures)) (end-within (length (s-of ar)) e)),
+      (values-passed (s-of ar) (a-of ar) (here-of ar) (n-of ar) (q-of av) e ((st-of ar) .pre) (long av) k, subst (λ (u : ℕ). u ≤ length (s-of ar)) (sym (c .end-of .ensures)) (end-within (length (s-of ar)) e)),
     )
 
 returns-2 : tie.Need-returns-2
@@ -97,19 +105,19 @@ returns-2 c =
 returns-3 : tie.Need-returns-3
 returns-3 c =
     let ar = c .before .before in
-    let w : 64 < 64 = too-wide (s-of ar) ((st-of ar) .args .at) 64 (ap toldRead (sym (c .enum-told .given .1)) ∙ ar .read-bits .ensures) in
+    let w : 64 < 64 = too-wide (s-of ar) ((st-of ar) .args .at) 64 (ap toldRead (sym (c .enum-told .given .1)) ∙ ar .read-from .ensures) in
     absurd (omega arith)
 
 returns-4 : tie.Need-returns-4
 returns-4 c =
     let ar = c .before .before in
-    (values-short (s-of ar) (a-of ar) (here-of ar) (n-of ar) ((st-of ar) .pre) (ended (s-of ar) ((st-of ar) .args .at) 64 (5 ∷ a-of ar ∷ []) (ap toldRead (sym (c .enum-told2 .given .1)) ∙ ar .read-bits .ensures)), tt)
+    (values-short (s-of ar) (a-of ar) (here-of ar) (n-of ar) ((st-of ar) .pre) (ended (s-of ar) ((st-of ar) .args .at) 64 (5 ∷ a-of ar ∷ []) (ap toldRead (sym (c .enum-told2 .given .1)) ∙ ar .read-from .ensures)), tt)
 
 pub scan-values-spec : {M : Type 1} → statement M
 scan-values-spec =
     tie.close
     (tie.spec
-    read-bits-requires
+    read-from-requires
     enum-known-v
     scan-requires
     enum-known-e

@@ -1,128 +1,148 @@
+use native.Mathlib.Omega.{arith}
 use borrow.Author.Needs.{needs}
-use Prim.Native.Nat.{ℕ, _≤_}
-use mathlib.Core.Path.{_≡_, sym, ap, _∙_}
+use Prim.Native.Nat.{ℕ, _-_, _≤_, _<_}
+use mathlib.Core.Path.{_≡_, sym, ap, _∙_, subst}
 use mathlib.Core.List.{List, _++_}
 use lib.IntN.{ℤ, pos}
 use lib.ListN.{replicate}
 use mir.Syntax.{w64}
 use mir.Val.{SFits}
 use mir.Facts.{toZ-ofZ}
-use Rattle.bits.specs.declared.Place.{Place}
 use Rattle.gorilla.specs.Array.{arrayNo}
 use Rattle.gorilla.specs.Parser.{Read, read}
 use Rattle.gorilla.specs.Places.{bitsFrom}
 use Rattle.gorilla.specs.Reading.{readCode}
-use Rattle.array_reader.specs.Steps.{toldCode, ahead}
+use Rattle.code_reader.specs.Inner.{ReadsCode}
+use Rattle.code_reader.specs.declared.code.CodeRead.the-variants as v
+use Rattle.array_reader.specs.Inner.{ahead}
 use Rattle.array_reader.proofs.Filling.{there-not}
-use Rattle.array_reader.proofs.Runs.{zeros-code, zeros-from}
+use Rattle.array_reader.proofs.Runs.{zeros-code, zeros-on-at, code-at, code-cut-at, here}
 use Rattle.array_reader.proofs.fill.step.Statement.{statement}
 use Rattle.array_reader.proofs.fill.step.Tie as tie
 
-abbrev st-of : tie.After-zero-run → tie.Start
-st-of zr = zr .before .before .before .before
+abbrev st-of : tie.After-window-at → tie.Start
+st-of wa = wa .before .before .before .before
+
+abbrev a-of : tie.Start → ℕ
+a-of st = arrayNo (st .args .array)
 
 -- the code of the index, from these bits on
 abbrev code-of : tie.Start → List ℕ → Read ℤ
-code-of st = readCode (arrayNo (st .args .array)) (st .args .index)
+code-of st = readCode (a-of st) (st .args .index)
 
 -- what the cursor has ahead is what stands at its place
-here : (st : tie.Start) → code-of st (bitsFrom (st .args .s .now) (st .args .c .at)) ≡ code-of st (ahead (st .args .s .now) (st .args .c))
-here st = ap (λ (n : ℕ). code-of st (replicate n 0 ++ bitsFrom (st .args .s .now) (st .args .c .at))) (sym (st .pre .0))
+at-place : (st : tie.Start) → code-of st (bitsFrom (st .args .s .now) (st .args .c .at)) ≡ code-of st (ahead (st .args .s .now) (st .args .c))
+at-place st = ap (λ (n : ℕ). code-of st (replicate n 0 ++ bitsFrom (st .args .s .now) (st .args .c .at))) (sym (st .pre .0))
 
-zero-run-requires : tie.Need-zero-run-requires
-zero-run-requires c κs = search needs
+window-at-requires : tie.Need-window-at-requires
+window-at-requires c κs = c .before .before .before .pre .1
+
+zeros-requires : tie.Need-zeros-requires
+zeros-requires c κs = search needs
+
+cast-t12 : tie.Need-cast-t12
+cast-t12 c = search needs
 
 sub-t13 : tie.Need-sub-t13
 sub-t13 c = search needs
+
+after-requires : tie.Need-after-requires
+after-requires c κs =
+    let z = c .before in
+    let wa = z .before in
+    let st = st-of wa in
+    let h = here (st .args .s .now) (st .args .c .at) (wa .window-at .ensures) (z .zeros .result) (c .if1 .taken) (z .zeros .ensures .1) in
+    let m : z .zeros .result ≤ 64 = omega (arith, z .zeros .ensures .0) in
+    search (needs, h, m)
 
 follow-requires : tie.Need-follow-requires
 follow-requires c κs = search needs
 
 returns : tie.Need-returns
 returns c =
-    let t1 = c .before .before .before in
-    let zr = t1 .before .before in
-    let st = st-of zr in
+    let af = c .before in
+    let t1 = af .before in
+    let z = t1 .before in
+    let wa = z .before in
+    let st = st-of wa in
     let s = st .args .s .now in
-    let n = zr .zero-run .result .n in
-    let q = zr .zero-run .result .next in (
+    let n : ℕ = z .zeros .result in (
       pos 0,
-      zeros-code (arrayNo (st .args .array)) (st .args .index) n (bitsFrom s q) (t1 .if1 .taken)
-          ∙ ap (code-of st) (sym (zeros-from s (st .args .c .at) q n (zr .zero-run .ensures .1) (zr .zero-run .ensures .2) (zr .zero-run .ensures .3))) ∙ here st,
+      zeros-code (a-of st) (st .args .index) n (bitsFrom s (af .after .result)) (t1 .if1 .taken)
+          ∙ ap (code-of st) (sym (zeros-on-at s (st .args .c .at) (wa .window-at .ensures) 64 n (z .zeros .ensures) (t1 .if1 .taken) (af .after .ensures))) ∙ at-place st,
       c .follow .ensures,
     )
 
-is-near-requires : tie.Need-is-near-requires
-is-near-requires c κs = search needs
-
-read-near-requires : tie.Need-read-near-requires
-read-near-requires c κs = c .before .is-near .ensures (c .if2 .taken)
-
-after-requires : tie.Need-after-requires
-after-requires c κs =
-    let h = c .before .before .is-near .ensures (c .before .if2 .taken) in
-    let m : c .read-near .result .bits ≤ 36 = c .read-near .ensures .0 in
-    search (needs, h)
-
-follow-requires-2 : tie.Need-follow-requires-2
-follow-requires-2 c κs = search needs
-
-returns-2 : tie.Need-returns-2
-returns-2 c =
-    let af = c .before .before in
-    let rn = af .before in
-    let st = st-of (rn .before .before .before .before .before) in
-    let s = st .args .s .now in
-    let g : SFits w64 (rn .read-near .result .diff) = search needs in (
-      rn .read-near .result .diff,
-      ap (λ (q : Place). read (rn .read-near .result .diff) (bitsFrom s q)) (af .after .ensures) ∙ rn .read-near .ensures .1 (arrayNo (st .args .array)) (st .args .index) ∙ here st,
-      rw (toZ-ofZ g) at (c .follow2 .ensures),
-    )
-
-read-far-requires : tie.Need-read-far-requires
-read-far-requires c κs = search needs
+read-code-requires : tie.Need-read-code-requires
+read-code-requires c κs = search needs
 
 enum-known-d : tie.Need-enum-known-d
 enum-known-d c = search needs
 
-follow-requires-3 : tie.Need-follow-requires-3
-follow-requires-3 c κs = search needs
+-- the code that was read
+abbrev w-of : tie.After-read-code → tie.After-window-at
+w-of rc = rc .before .before .before
+
+read-is : (c : tie.After-d)
+    → ReadsCode (w-of (c .before .before) .window-at .result) (a-of (st-of (w-of (c .before .before)))) ((st-of (w-of (c .before .before))) .args .index) (v.Diff (c .d .given .0 .0) (c .d .given .0 .1 .0))
+read-is c =
+    let rc = c .before .before in
+    let wa = w-of rc in
+    subst (ReadsCode (wa .window-at .result) (a-of (st-of wa)) ((st-of wa) .args .index)) (c .d .given .1) (rc .read-code .ensures)
+
+after-requires-2 : tie.Need-after-requires-2
+after-requires-2 c κs =
+    let wa = w-of (c .before .before .before) in
+    let st = st-of wa in
+    let n : ℕ = c .before .d .given .0 .1 .0 in
+    let r = read-is (c .before) in
+    let h = here (st .args .s .now) (st .args .c .at) (wa .window-at .ensures) n (r .0 .0) (r .0 .1) in
+    let m : n ≤ 64 = omega (arith, r .0 .1, wa .window-at .ensures .most) in
+    search (needs, h, m)
+
+follow-requires-2 : tie.Need-follow-requires-2
+follow-requires-2 c κs = search needs
 
 enum-told : tie.Need-enum-told
 enum-told c = search needs
 
-returns-3 : tie.Need-returns-3
-returns-3 c =
-    let ad = c .before .before in
-    let rf = ad .before .before in
-    let st = st-of (rf .before .before .before .before .before) in
-    let g : SFits w64 (ad .d .given .0 .0) = search needs in
-    (ad .d .given .0 .0, ap (toldCode (st .args .s .now)) (sym (ad .d .given .1)) ∙ rf .read-far .ensures ∙ here st, rw (toZ-ofZ g) at (c .follow3 .ensures))
+returns-2 : tie.Need-returns-2
+returns-2 c =
+    let af = c .before in
+    let ad = af .before .before in
+    let wa = w-of (ad .before .before) in
+    let st = st-of wa in
+    let g : SFits w64 (ad .d .given .0 .0) = search needs in (
+      ad .d .given .0 .0,
+      code-at (st .args .s .now) (st .args .c .at) (wa .window-at .ensures) (a-of st) (st .args .index) _ (read-is ad) (af .after2 .ensures) ∙ at-place st,
+      rw (toZ-ofZ g) at (c .follow2 .ensures),
+    )
 
 -- the code is there
-returns-4 : tie.Need-returns-4
-returns-4 c =
-    let rf = c .before .before in
-    let st = st-of (rf .before .before .before .before .before) in
+returns-3 : tie.Need-returns-3
+returns-3 c =
+    let rc = c .before .before in
+    let wa = w-of rc in
+    let st = st-of wa in
+    let k = subst (ReadsCode (wa .window-at .result) (a-of st) (st .args .index)) (c .enum-told .given .1) (rc .read-code .ensures) in
     there-not (code-of st (ahead (st .args .s .now) (st .args .c)))
-    (ap (toldCode (st .args .s .now)) (sym (c .enum-told .given .1)) ∙ rf .read-far .ensures ∙ here st) (st .pre .1)
+    (code-cut-at (st .args .s .now) (st .args .c .at) (wa .window-at .ensures) (a-of st) (st .args .index) (c .enum-told .given .0 .0) k ∙ at-place st) (st .pre .2)
 
 pub step-spec : {M : Type 1} → statement M
 step-spec =
     tie.close
     (tie.spec
-    zero-run-requires
+    window-at-requires
+    zeros-requires
+    cast-t12
     sub-t13
+    after-requires
     follow-requires
     returns
-    is-near-requires
-    read-near-requires
-    after-requires
-    follow-requires-2
-    returns-2
-    read-far-requires
+    read-code-requires
     enum-known-d
-    follow-requires-3
+    after-requires-2
+    follow-requires-2
     enum-told
-    returns-3
-    returns-4)
+    returns-2
+    returns-3)

@@ -1,7 +1,7 @@
 use native.Mathlib.Omega.{arith}
 use borrow.Author.Needs.{needs}
-use Prim.Native.Nat.{ℕ, suc, _+_, _-_, _≤_}
-use mathlib.Core.Path.{_≡_, refl, sym, ap, ap₂, _∙_}
+use Prim.Native.Nat.{ℕ, suc, _+_, _-_, _≤_, _<_}
+use mathlib.Core.Path.{_≡_, refl, sym, ap, ap₂, _∙_, subst}
 use mathlib.Core.List.{List}
 use lib.IntN.{ℤ}
 use Rattle.bits.specs.declared.Place.{Place}
@@ -10,8 +10,9 @@ use Rattle.gorilla.specs.Parser.{Read, read, shape}
 use Rattle.gorilla.specs.Places.{bitsFrom}
 use Rattle.gorilla.specs.Reading.{readCode, readCodes}
 use Rattle.gorilla.proofs.Readers.{shape-next, codes-cut}
-use Rattle.array_reader.specs.Steps.{toldCode}
-use Rattle.array_reader.proofs.Runs.{zeros-codes, zeros-from}
+use Rattle.code_reader.specs.Inner.{ReadsCode}
+use Rattle.code_reader.specs.declared.code.CodeRead.the-variants as v
+use Rattle.array_reader.proofs.Runs.{zeros-codes, zeros-on-at, code-at, code-cut-at, here}
 use Rattle.array_reader.proofs.scan.scan.Statement.{statement}
 use Rattle.array_reader.proofs.scan.scan.Tie as tie
 
@@ -46,61 +47,100 @@ k-of t = (st-of t) .args .count - (i-of t + 1)
 abbrev whole : tie.Start Inv-loop μ-loop → Read (Unit {0})
 whole st = shape (readCodes (arrayNo (st .args .array)) (st .args .count - 1) 1 (bitsFrom (st .args .s .now) (st .args .at)))
 
-here : (t : tie.In-loop Inv-loop μ-loop) → shape (readCodes (a-of t) (suc (k-of t)) (i-of t) (here-of t)) ≡ whole (st-of t)
-here t =
+left : (t : tie.In-loop Inv-loop μ-loop) → shape (readCodes (a-of t) (suc (k-of t)) (i-of t) (here-of t)) ≡ whole (st-of t)
+left t =
     let e : suc (k-of t) ≡ (st-of t) .args .count - i-of t = omega (arith, t .loop-test .taken) in
     ap (λ (k : ℕ). shape (readCodes (a-of t) k (i-of t) (here-of t))) e ∙ t .before .loop .inv .1
 
 -- one code was read
 next : (t : tie.In-loop Inv-loop μ-loop) (q : Place) {d : ℤ} → read d (bitsFrom (s-of t) q) ≡ readCode (a-of t) (i-of t) (here-of t)
     → shape (readCodes (a-of t) (k-of t) (i-of t + 1) (bitsFrom (s-of t) q)) ≡ whole (st-of t)
-next t q h = sym (shape-next (a-of t) (k-of t) (i-of t) (here-of t) h) ∙ here t
+next t q h = sym (shape-next (a-of t) (k-of t) (i-of t) (here-of t) h) ∙ left t
 
 loop-holds : tie.Need-loop-holds Inv-loop μ-loop
 loop-holds c = (omega arith, refl)
 
-sub-zero-run : tie.Need-sub-zero-run Inv-loop μ-loop
-sub-zero-run c = search needs
+window-at-requires : tie.Need-window-at-requires Inv-loop μ-loop
+window-at-requires c κs = (st-of c) .pre
 
-zero-run-requires : tie.Need-zero-run-requires Inv-loop μ-loop
-zero-run-requires c κs = search needs
+sub-zeros : tie.Need-sub-zeros Inv-loop μ-loop
+sub-zeros c = search needs
 
-add-i : tie.Need-add-i Inv-loop μ-loop
-add-i c =
-    let zr = c .before .before .before .before in
-    omega (arith, zr .zero-run .ensures .0, zr .before .loop-test .taken)
-
-loop-less : tie.Need-loop-less Inv-loop μ-loop
-loop-less c =
-    let zr = c .before .before .before .before in
-    omega (arith, zr .zero-run .ensures .0, zr .before .loop-test .taken, c .before .before .if1 .taken)
-
-loop-again : tie.Need-loop-again Inv-loop μ-loop
-loop-again c =
-    let zr = c .before .before .before .before in
-    let t = zr .before in
-    let l = t .before .loop in
-    let n = zr .zero-run .result .n in
-    let q = zr .zero-run .result .next in
-    let z = zeros-from (s-of t) (l .p) q n (zr .zero-run .ensures .1) (zr .zero-run .ensures .2) (zr .zero-run .ensures .3) in
-    let k : ℕ = (st-of t) .args .count - (l .i + n) in
-    let e : n + k ≡ (st-of t) .args .count - l .i = omega (arith, zr .zero-run .ensures .0, t .loop-test .taken) in (
-      omega arith,
-      sym (zeros-codes (a-of t) n k (l .i) (bitsFrom (s-of t) q))
-          ∙ ap₂ (λ (u : ℕ) (bs : List ℕ). shape (readCodes (a-of t) u (l .i) bs)) e (sym z) ∙ l .inv .1,
-    )
-
-is-near-requires : tie.Need-is-near-requires Inv-loop μ-loop
-is-near-requires c κs = search needs
-
-read-near-requires : tie.Need-read-near-requires Inv-loop μ-loop
-read-near-requires c κs = c .before .is-near .ensures (c .if2 .taken)
+zeros-requires : tie.Need-zeros-requires Inv-loop μ-loop
+zeros-requires c κs = search needs
 
 after-requires : tie.Need-after-requires Inv-loop μ-loop
 after-requires c κs =
-    let h = c .before .before .is-near .ensures (c .before .if2 .taken) in
-    let m : c .read-near .result .bits ≤ 36 = c .read-near .ensures .0 in
-    search (needs, h)
+    let z = c .before in
+    let wa = z .before in
+    let t = wa .before in
+    let h = here (s-of t) (t .before .loop .p) (wa .window-at .ensures) (z .zeros .result) (c .if1 .taken) (z .zeros .ensures .1) in
+    let m : z .zeros .result ≤ 64 = omega (arith, z .zeros .ensures .1, wa .window-at .ensures .most) in
+    search (needs, h, m)
+
+cast-i : tie.Need-cast-i Inv-loop μ-loop
+cast-i c = search needs
+
+add-i : tie.Need-add-i Inv-loop μ-loop
+add-i c = let z = c .before .before in omega (arith, z .zeros .ensures .0, z .before .before .loop-test .taken)
+
+loop-less : tie.Need-loop-less Inv-loop μ-loop
+loop-less c = let z = c .before .before in omega (arith, z .zeros .ensures .0, z .before .before .loop-test .taken, c .before .if1 .taken)
+
+loop-again : tie.Need-loop-again Inv-loop μ-loop
+loop-again c =
+    let z = c .before .before in
+    let wa = z .before in
+    let t = wa .before in
+    let l = t .before .loop in
+    let n : ℕ = z .zeros .result in
+    let q = c .after .result in
+    let k : ℕ = (st-of t) .args .count - (l .i + n) in
+    let e : n + k ≡ (st-of t) .args .count - l .i = omega (arith, z .zeros .ensures .0, t .loop-test .taken) in
+    let o = zeros-on-at (s-of t) (l .p) (wa .window-at .ensures) ((st-of t) .args .count - l .i) n (z .zeros .ensures) (c .before .if1 .taken) (c .after .ensures) in (
+      omega arith,
+      sym (zeros-codes (a-of t) n k (l .i) (bitsFrom (s-of t) q)) ∙ ap₂ (λ (u : ℕ) (bs : List ℕ). shape (readCodes (a-of t) u (l .i) bs)) e (sym o) ∙ l .inv .1,
+    )
+
+read-code-requires : tie.Need-read-code-requires Inv-loop μ-loop
+read-code-requires c κs = search needs
+
+enum-known-n : tie.Need-enum-known-n Inv-loop μ-loop
+enum-known-n c = search needs
+
+-- the code that was read
+abbrev w-of : tie.After-read-code Inv-loop μ-loop → tie.After-window-at Inv-loop μ-loop
+w-of rc = rc .before .before .before
+
+read-is : (c : tie.After-n Inv-loop μ-loop)
+    → ReadsCode (w-of (c .before .before) .window-at .result) (a-of (w-of (c .before .before) .before)) (i-of (w-of (c .before .before) .before)) (v.Diff (c .n .given .0 .0) (c .n .given .0 .1 .0))
+read-is c =
+    let rc = c .before .before in
+    let wa = w-of rc in
+    subst (ReadsCode (wa .window-at .result) (a-of (wa .before)) (i-of (wa .before))) (c .n .given .1) (rc .read-code .ensures)
+
+after-requires-2 : tie.Need-after-requires-2 Inv-loop μ-loop
+after-requires-2 c κs =
+    let wa = w-of (c .before .before .before) in
+    let t = wa .before in
+    let n : ℕ = c .before .n .given .0 .1 .0 in
+    let r = read-is (c .before) in
+    let h = here (s-of t) (t .before .loop .p) (wa .window-at .ensures) n (r .0 .0) (r .0 .1) in
+    let m : n ≤ 64 = omega (arith, r .0 .1, wa .window-at .ensures .most) in
+    search (needs, h, m)
+
+enum-known-r : tie.Need-enum-known-r Inv-loop μ-loop
+enum-known-r c = search needs
+
+-- a code that is cut off ends the scan
+returns : tie.Need-returns Inv-loop μ-loop
+returns c =
+    let r = c .before in
+    let rc = r .before .before in
+    let wa = w-of rc in
+    let t = wa .before in
+    let k = subst (ReadsCode (wa .window-at .result) (a-of t) (i-of t)) (r .r .given .1) (rc .read-code .ensures) in
+    sym (ap shape (codes-cut (a-of t) (k-of t) (i-of t) (here-of t) (code-cut-at (s-of t) (t .before .loop .p) (wa .window-at .ensures) (a-of t) (i-of t) (r .r .given .0 .0) k))) ∙ left t
 
 add-i-2 : tie.Need-add-i-2 Inv-loop μ-loop
 add-i-2 c = search needs
@@ -110,40 +150,10 @@ loop-less-2 c = search needs
 
 loop-again-2 : tie.Need-loop-again-2 Inv-loop μ-loop
 loop-again-2 c =
-    let rn = c .before in
-    let t = rn .before .before .before .before .before .before in
-    let e = ap (λ (q : Place). read (rn .read-near .result .diff) (bitsFrom (s-of t) q)) (c .after .ensures) in
-    (omega arith, next t (c .after .result) (e ∙ rn .read-near .ensures .1 (a-of t) (i-of t)))
-
-read-far-requires : tie.Need-read-far-requires Inv-loop μ-loop
-read-far-requires c κs = search needs
-
-enum-known-q : tie.Need-enum-known-q Inv-loop μ-loop
-enum-known-q c = search needs
-
-enum-known-r : tie.Need-enum-known-r Inv-loop μ-loop
-enum-known-r c = search needs
-
--- a code that is cut off ends the scan
-returns : tie.Need-returns Inv-loop μ-loop
-returns c =
-    let r = c .before in
-    let rf = r .before .before in
-    let t = rf .before .before .before .before .before .before in
-    sym (ap shape (codes-cut (a-of t) (k-of t) (i-of t) (here-of t) (ap (toldCode (s-of t)) (sym (r .r .given .1)) ∙ rf .read-far .ensures))) ∙ here t
-
-add-i-3 : tie.Need-add-i-3 Inv-loop μ-loop
-add-i-3 c = search needs
-
-loop-less-3 : tie.Need-loop-less-3 Inv-loop μ-loop
-loop-less-3 c = search needs
-
-loop-again-3 : tie.Need-loop-again-3 Inv-loop μ-loop
-loop-again-3 c =
-    let q = c .before in
-    let rf = q .before .before in
-    let t = rf .before .before .before .before .before .before in
-    (omega arith, next t (q .q .given .0 .1 .0) (ap (toldCode (s-of t)) (sym (q .q .given .1)) ∙ rf .read-far .ensures))
+    let n = c .before .before in
+    let wa = w-of (n .before .before) in
+    let t = wa .before in
+    (omega arith, next t (c .after2 .result) (code-at (s-of t) (t .before .loop .p) (wa .window-at .ensures) (a-of t) (i-of t) _ (read-is n) (c .after2 .ensures)))
 
 returns-2 : tie.Need-returns-2 Inv-loop μ-loop
 unfolding readCodes
@@ -160,22 +170,20 @@ scan-spec =
     Inv-loop
     μ-loop
     loop-holds
-    sub-zero-run
-    zero-run-requires
+    window-at-requires
+    sub-zeros
+    zeros-requires
+    after-requires
+    cast-i
     add-i
     loop-less
     loop-again
-    is-near-requires
-    read-near-requires
-    after-requires
+    read-code-requires
+    enum-known-n
+    after-requires-2
+    enum-known-r
+    returns
     add-i-2
     loop-less-2
     loop-again-2
-    read-far-requires
-    enum-known-q
-    enum-known-r
-    returns
-    add-i-3
-    loop-less-3
-    loop-again-3
     returns-2)

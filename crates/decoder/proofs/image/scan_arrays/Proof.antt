@@ -14,10 +14,9 @@ use mir.Facts.{toZ-ofZ}
 use Rattle.signed.specs.Signed.{pattern}
 use Rattle.gorilla.specs.BitList.{bitsOf}
 use Rattle.gorilla.specs.Parser.{read}
-use Rattle.gorilla.specs.Reading.{readArray, readPart, thenAlign}
+use Rattle.gorilla.specs.Reading.{readArray, readPart, readArrays}
 use Rattle.gorilla.specs.declared.Array.the-variants.{Sequences, Seconds}
-use Rattle.array_reader.specs.Steps.{toldArray, PassedArray, arrayAt, passedAt, Agrees}
-use Rattle.decoder.specs.Parts.{readArrays}
+use Rattle.array_reader.specs.Inner.{aligned, toldArray, PassedArray, arrayAt, passedAt, Agrees}
 use Rattle.array_reader.proofs.Arrays.{array-length, array-room, part-found, part-differs, part-refused}
 use Rattle.decoder.proofs.Header.{arrays-found, first-refused, second-refused}
 use Rattle.decoder.proofs.image.scan_arrays.Statement.{statement}
@@ -46,7 +45,7 @@ seqs-of ac = arrayAt (s-of (sa-of ac)) 0 (ac .c0 .given .0 .0) (ac .c0 .given .0
 abbrev rest-of : tie.After-c0 → List ℕ
 rest-of ac = drop (ac .c0 .given .0 .1 .1 .1 .0 * 8) (bitsOf (s-of (sa-of ac)))
 
-array-0 : (ac : tie.After-c0) (room : ℕ → Bool) → Room (sa-of ac) room → read (seqs-of ac) (rest-of ac) ≡ thenAlign (readArray 0 room (bits-of (sa-of ac)))
+array-0 : (ac : tie.After-c0) (room : ℕ → Bool) → Room (sa-of ac) room → read (seqs-of ac) (rest-of ac) ≡ aligned (readArray 0 room (bits-of (sa-of ac)))
 array-0 ac room agrees = ap (toldArray (s-of (sa-of ac)) Sequences) (sym (ac .c0 .given .1)) ∙ (sa-of ac) .scan-array .ensures .0 room agrees
 
 passed-0 : (ac : tie.After-c0) → passedAt (s-of (sa-of ac)) 0 (ac .c0 .given .0 .0) (ac .c0 .given .0 .1 .1 .0)
@@ -77,7 +76,7 @@ secs-of a1 = arrayAt (s-of (sa-of (c-of a1))) 1 (a1 .c1 .given .0 .0) (a1 .c1 .g
 abbrev end-of : tie.After-c1 → List ℕ
 end-of a1 = drop (a1 .c1 .given .0 .1 .1 .1 .0 * 8) (bitsOf (s-of (sa-of (c-of a1))))
 
-array-1 : (a1 : tie.After-c1) (room : ℕ → Bool) → Room (sa-of (c-of a1)) room → read (secs-of a1) (end-of a1) ≡ thenAlign (readArray 1 room (rest-of (c-of a1)))
+array-1 : (a1 : tie.After-c1) (room : ℕ → Bool) → Room (sa-of (c-of a1)) room → read (secs-of a1) (end-of a1) ≡ aligned (readArray 1 room (rest-of (c-of a1)))
 array-1 a1 room agrees = ap (toldArray (s-of (sa-of (c-of a1))) Seconds) (sym (a1 .c1 .given .1)) ∙ a1 .before .before .scan-array2 .ensures .0 room agrees
 
 passed-1 : (a1 : tie.After-c1) → passedAt (s-of (sa-of (c-of a1))) 1 (a1 .c1 .given .0 .0) (a1 .c1 .given .0 .1 .1 .0) × (a1 .c1 .given .0 .1 .1 .1 .0 ≤ length (s-of (sa-of (c-of a1))))

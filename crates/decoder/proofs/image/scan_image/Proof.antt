@@ -1,11 +1,9 @@
 use native.Mathlib.Omega.{arith}
 use borrow.Author.Needs.{needs}
 use Prim.Native.Nat.{ℕ, _<_}
-use mathlib.Core.Path.{sym, ap, _∙_}
+use mathlib.Core.Path.{sym, _∙_}
 use mathlib.Core.List.{List}
-use lib.ListN.{drop, getD}
-use Rattle.gorilla.specs.BitList.{bitsOf}
-use Rattle.decoder.specs.Parts.{readArrays}
+use lib.ListN.{getD}
 use Rattle.decoder.proofs.Header.{head-empty, head-version, head-short, head-is}
 use Rattle.decoder.proofs.image.scan_image.Statement.{statement}
 use Rattle.decoder.proofs.image.scan_image.Tie as tie
@@ -45,8 +43,8 @@ returns-4 c =
     let hc = c .before in
     let e = hc .before in
     let k = e .before .before .before .before in (
-      λ room agrees. c .scan-arrays .ensures .0 room agrees ∙ ap (λ (n : ℕ). readArrays room n (drop 40 (bitsOf (s-of k)))) (hc .header-count .ensures)
-          ∙ sym (head-is room (s-of k) (bytes k) (omega (arith, e .if3 .left)) (omega (arith, e .before .if2 .left))),
+      λ room agrees. c .scan-arrays .ensures .0 room agrees
+          ∙ sym (head-is room (s-of k) (bytes k) (hc .header-count .result) (omega (arith, e .if3 .left)) (omega (arith, e .before .if2 .left)) (hc .header-count .ensures)),
       c .scan-arrays .ensures .1,
     )
 

@@ -14,12 +14,13 @@ use Rattle.signed.specs.Signed.{pattern}
 use Rattle.told.specs.Told.{gave}
 use Rattle.gorilla.specs.Parser.{Read}
 use Rattle.gorilla.specs.Reading.{Pairs}
-use Rattle.decoder.specs.Decode.{listed, countOf, seqsOver, secsOver}
-use Rattle.array_reader.specs.Steps.{arrayAt, passedAt}
-use Rattle.decoder.specs.Parts.{toldImage, PassedImage}
+use Rattle.decoder.specs.Decode.{listed, countOf}
+use Rattle.array_reader.specs.Inner.{arrayAt, passedAt}
+use Rattle.decoder.specs.Inner.{toldImage, PassedImage}
 use Rattle.decoder.specs.declared.image.ImageScan.{ImageScan}
 use Rattle.decoder.specs.declared.image.Parts.{Parts}
 use Rattle.array_reader.proofs.Arrays.{array-length}
+use Rattle.decoder.proofs.Stored.{seqsOver, secsOver}
 use Rattle.decoder.proofs.reader.decode.Statement.{statement}
 use Rattle.decoder.proofs.reader.decode.Tie as tie
 
@@ -100,10 +101,8 @@ returns c =
     let seqs = seqs-of si p in
     let secs = secs-of si p in (
       ap gave (sym (array-length (s-of si) 1 (p .count) (p .«sec_first») (p .«sec_at») (there a .1))) ∙ ap countOf i,
-      (
-        _∙_ {b = seqs} (rw (toZ-ofZ (fits k .0)) at (f₁ .fill-seqs .ensures)) (ap (seqsOver ((st-of si) .args .seqs .now)) i),
-        _∙_ {b = secs} (rw (toZ-ofZ (fits k .1)) at (f₂ .fill-secs .ensures)) (ap (secsOver ((st-of si) .args .secs .now)) i),
-      ),
+      _∙_ {b = seqs} (rw (toZ-ofZ (fits k .0)) at (f₁ .fill-seqs .ensures)) (ap (seqsOver ((st-of si) .args .seqs .now)) i),
+      _∙_ {b = secs} (rw (toZ-ofZ (fits k .1)) at (f₂ .fill-secs .ensures)) (ap (secsOver ((st-of si) .args .secs .now)) i),
     )
 
 returns-2 : tie.Need-returns-2
@@ -111,7 +110,7 @@ returns-2 c =
     let r = c .before in
     let si = r .before .before in
     let e = scan-is si (r .r .given .1) in
-    (ap countOf e, (ap (seqsOver ((st-of si) .args .seqs .now)) e, ap (secsOver ((st-of si) .args .secs .now)) e))
+    (ap countOf e, ap (seqsOver ((st-of si) .args .seqs .now)) e, ap (secsOver ((st-of si) .args .secs .now)) e)
 
 pub decode-spec : {M : Type 1} → statement M
 decode-spec =

@@ -4,8 +4,8 @@ use mathlib.Core.Path.{_≡_, sym, ap, _∙_, subst}
 use mathlib.Core.Bool.{true}
 use mathlib.Core.List.{List}
 use Rattle.told.specs.Told.{gave}
-use Rattle.decoder.specs.Decode.{lenOf, lenRule}
-use Rattle.decoder.specs.Parts.{toldImage, PassedImage}
+use Rattle.decoder.specs.Decode.{imageLenOf, imageLenRule}
+use Rattle.decoder.specs.Inner.{toldImage, PassedImage}
 use Rattle.decoder.specs.declared.image.ImageScan.{ImageScan}
 use Rattle.decoder.proofs.Lengths.{no-limit, less-left}
 use Rattle.decoder.proofs.reader.image_len.Statement.{statement}
@@ -14,9 +14,9 @@ use Rattle.decoder.proofs.reader.image_len.Tie as tie
 abbrev s-of : tie.After-scan-image → List ℕ
 s-of si = si .before .before .args .bytes .now
 
-len-is : (si : tie.After-scan-image) {x : ImageScan} → si .scan-image .result ≡ x → lenOf (s-of si) (toldImage (s-of si) x) ≡ lenRule (s-of si)
-unfolding lenRule
-len-is si h = ap (lenOf (s-of si)) (ap (toldImage (s-of si)) (sym h) ∙ si .scan-image .ensures .0 (λ n. true) no-limit)
+len-is : (si : tie.After-scan-image) {x : ImageScan} → si .scan-image .result ≡ x → imageLenOf (s-of si) (toldImage (s-of si) x) ≡ imageLenRule (s-of si)
+unfolding imageLenRule
+len-is si h = ap (imageLenOf (s-of si)) (ap (toldImage (s-of si)) (sym h) ∙ si .scan-image .ensures .0 (λ n. true) no-limit)
 
 scan-image-requires : tie.Need-scan-image-requires
 scan-image-requires c κs = search needs

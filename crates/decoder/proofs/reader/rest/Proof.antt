@@ -5,7 +5,7 @@ use Prim.Native.Nat.{ℕ, _+_, _-_, _≤_}
 use mathlib.Core.Path.{_≡_, sym, ap, _∙_}
 use mathlib.Core.List.{List}
 use lib.ListN.{length, take, drop}
-use Rattle.decoder.specs.Decode.{toldLen, startOf, restFrom, restRule, onwards}
+use Rattle.decoder.specs.Decode.{toldImageLen, startOf, restFrom, restRule, onwards}
 use Rattle.decoder.proofs.Lengths.{len-within, tail-is}
 use Rattle.decoder.proofs.reader.rest.Statement.{statement}
 use Rattle.decoder.proofs.reader.rest.Tie as tie
@@ -14,7 +14,7 @@ abbrev s-of : tie.After-image-len → List ℕ
 s-of il = il .before .before .args .bytes .now
 
 within : (a : tie.After-n) → a .n .given .0 .0 ≤ length (s-of (a .before .before))
-within a = len-within (s-of (a .before .before)) (ap toldLen (sym (a .n .given .1)) ∙ a .before .before .image-len .ensures)
+within a = len-within (s-of (a .before .before)) (ap toldImageLen (sym (a .n .given .1)) ∙ a .before .before .image-len .ensures)
 
 -- a part that starts where the rest does is the rest
 ends : (il : tie.After-image-len) (n : ℕ) → n ≡ restFrom (s-of il)
@@ -54,13 +54,13 @@ returns : tie.Need-returns
 returns c =
     let a = c .before .before in
     let il = a .before .before in
-    ends il (a .n .given .0 .0) (ap (startOf (s-of il)) (ap toldLen (sym (a .n .given .1)) ∙ il .image-len .ensures))
+    ends il (a .n .given .0 .0) (ap (startOf (s-of il)) (ap toldImageLen (sym (a .n .given .1)) ∙ il .image-len .ensures))
 
 returns-2 : tie.Need-returns-2
 returns-2 c =
     let a = c .before in
     let il = a .before .before in
-    ends il (length (s-of il)) (ap (startOf (s-of il)) (ap toldLen (sym (a .enum-told .given .1)) ∙ il .image-len .ensures))
+    ends il (length (s-of il)) (ap (startOf (s-of il)) (ap toldImageLen (sym (a .enum-told .given .1)) ∙ il .image-len .ensures))
 
 pub rest-spec : {M : Type 1} → statement M
 rest-spec =

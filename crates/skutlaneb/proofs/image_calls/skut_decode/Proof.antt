@@ -15,7 +15,7 @@ same-length-2 : tie.Need-same-length-2
 same-length-2 c = search needs
 
 returns : tie.Need-returns
-returns c = (rw (c .of-decoded .ensures, c .before .before .before .before .decode .ensures .0), (rw (c .before .before .before .before .decode .ensures .1 .0), rw (c .before .before .before .before .decode .ensures .1 .1)))
+returns c = (rw (c .of-decoded .ensures, c .before .before .before .before .decode .ensures .0), (rw (c .before .before .before .before .decode .ensures .1), rw (c .before .before .before .before .decode .ensures .2)))
 
 pub skut-decode-spec : {M : Type 1} → statement M
 skut-decode-spec =

@@ -5,7 +5,8 @@ use Prim.Native.Nat.{ℕ}
 use native.Mathlib.Omega.{arith}
 use lib.IntN.{ℤ}
 use borrow.Author.Needs.{needs}
-use Rattle.store.specs.Restore.{toldRestore, filled}
+use Rattle.told.specs.Over.{filled}
+use Rattle.store.specs.Restore.{toldRestore}
 use Rattle.store.proofs.Loading.{Loaded, loaded, unread, short-seqs, short-secs, long}
 use Rattle.store.proofs.restoring.restore.Statement.{statement}
 use Rattle.store.proofs.restoring.restore.Tie as tie
@@ -29,7 +30,7 @@ load : (c : tie.After-n)
 load c =
     let d = c .before .before .before .before in
     loaded _ _ _ (sym (slice-aggregate-decode (d .before .before))) (sym (slice-aggregate-decode-2 (d .before))) _ _ _
-    (rw (c .n .given .1) at (d .decode .ensures .0)) (d .decode .ensures .1 .0) (d .decode .ensures .1 .1)
+    (rw (c .n .given .1) at (d .decode .ensures .0)) (d .decode .ensures .1) (d .decode .ensures .2)
 
 decode-requires : tie.Need-decode-requires
 decode-requires c κs = search needs

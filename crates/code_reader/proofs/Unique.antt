@@ -8,9 +8,9 @@ use lib.ListN.{getD}
 use Rattle.gorilla.specs.Array.{arrayNo}
 use Rattle.gorilla.specs.declared.Array.{Array}
 use Rattle.gorilla.specs.declared.Array.the-variants.{Sequences, Seconds}
-use Rattle.array_reader.specs.Refusal.{numbers}
-use Rattle.array_reader.specs.declared.Refusal.{Refusal}
-use Rattle.array_reader.specs.declared.Refusal.the-variants.{Empty, Version, Header, CountCut, TooMany, FirstCut, CodeEnd, PrefixCut, DiffCut, CountDiffers}
+use Rattle.code_reader.specs.Refusal.{told}
+use Rattle.code_reader.specs.declared.Refusal.{Refusal}
+use Rattle.code_reader.specs.declared.Refusal.the-variants.{Empty, Version, Header, CountCut, TooMany, FirstCut, CodeEnd, PrefixCut, DiffCut, CountDiffers}
 
 -- the array that a number is
 abbrev arrayOf : ℕ → Array
@@ -34,7 +34,7 @@ refusalOf k =
     (cond (eqb (getD k 0 0) 9) (CountDiffers (arrayOf (getD k 1 0)))
     (TooMany (arrayOf (getD k 1 0)))))))))))
 
-refusal-back : (r : Refusal) → refusalOf (numbers r) ≡ r
+refusal-back : (r : Refusal) → refusalOf (told r) ≡ r
 refusal-back Empty = refl
 refusal-back (Version b) = refl
 refusal-back Header = refl
@@ -47,5 +47,5 @@ refusal-back (CountDiffers a) = ap CountDiffers (array-back a)
 refusal-back (TooMany a) = ap TooMany (array-back a)
 
 -- refusals of which the same is told are the same
-pub one-refusal : (a b : Refusal) → numbers a ≡ numbers b → a ≡ b
+pub one-refusal : (a b : Refusal) → told a ≡ told b → a ≡ b
 one-refusal a b h = sym (refusal-back a) ∙ ap refusalOf h ∙ refusal-back b

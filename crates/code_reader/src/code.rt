@@ -1,0 +1,33 @@
+// One code: its prefix, and the difference of deltas after it.
+ghost use Rattle.gorilla.specs.Array.{arrayNo};
+ghost use Rattle.code_reader.specs.Inner.{ReadsCode};
+use crate::Refusal;
+use crate::prefix::Prefix;
+use crate::prefix::leading;
+use crate::prefix::used_of;
+use crate::window::Window;
+use gorilla::Array;
+
+pub enum CodeRead {
+    // the difference of deltas, and the bits that the code has
+    Diff(i64, u8),
+    Refused(Refusal),
+}
+
+// The code of an index, which a window starts with.
+pub fn read_code(w: Window, array: Array, index: usize) -> CodeRead
+    ensures { λ r. ⌜ ReadsCode w (arrayNo array) index r ⌝ }
+{
+    match leading(w, array, index) {
+        Prefix::Ones(n) => {
+            let width = gorilla::inner::width_of(n);
+            let bits = used_of(n) + width;
+            if w.have < bits {
+                return CodeRead::Refused(Refusal::DiffCut(array, index, width));
+            }
+            let v = bits::inner::field(w.bits, 64 - bits, width);
+            CodeRead::Diff(gorilla::inner::diff_of(v, width), bits)
+        }
+        Prefix::Refused(r) => CodeRead::Refused(r),
+    }
+}
