@@ -253,9 +253,9 @@ steps-of room bs left p h =
       patterns = sym (ap (λ (r : Pairs). r .seqs) q);
     }
 
-padded : (room : ℕ → Bool) (bs left : List ℕ) (p : Pairs) → Steps room bs p left → Padded room bs p left
+padded : (room : ℕ → Bool) (bs left : List ℕ) (p : Pairs) → length bs % 8 ≡ 0 → Steps room bs p left → Padded room bs p left
 unfolding Any readPairs
-padded room bs left p s =
+padded room bs left p even s =
     let v = off-taken Any any-grow (1 ∷ []) 8 0 bs (s .after-version) 1 (s .version-read) in
     let c = count-takes Any any-grow (3 ∷ []) .takes (s .after-version) (s .after-header) (s .count) (s .count-read) in
     let a = part-of 0 room (s .count) (s .after-header) (s .after-seqs) (s .values) (s .seqs-read) in
@@ -263,6 +263,18 @@ padded room bs left p s =
     let laid : (x y : List ℕ) → v .used ++ c .used ++ a .bits ++ x ++ b .bits ++ y ++ left ≡ v .used ++ (c .used ++ (a .bits ++ x ++ (b .bits ++ y ++ left))) = λ x y. simp append-assoc in
     let whole : (y : List ℕ) → length y ≡ length (b .padding) → length (b .bits ++ y ++ left) % 8 ≡ 0 = λ y e.
     omega (arith, a .bytes, ap length (b .parts), length-append (b .bits ++ y) left, length-append (b .bits) y, length-append (b .bits ++ b .padding) left, length-append (b .bits) (b .padding)) in
+    let five : length (v .used ++ c .used) ≡ 40 = omega (
+      arith,
+      ap length (v .front),
+      ap length (c .front),
+      length-append (v .used) (s .after-version),
+      length-append (c .used) (s .after-header),
+      length-append (v .used) (c .used),
+      off-length (1 ∷ []) 8 0 bs (s .after-version) 1 (s .version-read),
+      count-length (3 ∷ []) (s .after-version) (s .after-header) (s .count) (s .count-read),
+    ) in
+    let front : length bs ≡ 40 + length (a .bits ++ a .padding) + length (s .after-seqs) =
+    omega (arith, five, ap length (v .front), ap length (c .front), ap length (a .parts), length-append (v .used) (s .after-version), length-append (c .used) (s .after-header), length-append (v .used) (c .used), length-append (a .bits ++ a .padding) (s .after-seqs)) in
     record {
       header = v .used ++ c .used;
       seqs = a .bits;
@@ -270,21 +282,13 @@ padded room bs left p s =
       secs = b .bits;
       secs-padding = b .padding;
       parts = v .front ∙ ap (λ (l : List ℕ). v .used ++ l) (c .front ∙ ap (λ (l : List ℕ). c .used ++ l) (a .parts ∙ ap (λ (l : List ℕ). a .bits ++ a .padding ++ l) (b .parts))) ∙ sym (laid (a .padding) (b .padding));
-      five = omega (
-        arith,
-        ap length (v .front),
-        ap length (c .front),
-        length-append (v .used) (s .after-version),
-        length-append (c .used) (s .after-header),
-        length-append (v .used) (c .used),
-        off-length (1 ∷ []) 8 0 bs (s .after-version) 1 (s .version-read),
-        count-length (3 ∷ []) (s .after-version) (s .after-header) (s .count) (s .count-read),
-      );
+      five = five;
       values = s .values;
       patterns = s .patterns;
       seqs-read = a .whole;
       secs-read = b .whole;
-      short = (a .short, b .short);
+      seqs-padded = (a .short, omega (arith, even, a .bytes, front));
+      secs-padded = (b .short, omega (arith, a .bytes, b .bytes, ap length (b .parts), length-append (b .bits ++ b .padding) left));
       ignored = λ x y e f.
           rw (laid x y, v .same (c .used ++ (a .bits ++ x ++ (b .bits ++ y ++ left))) tt)
           (rw (c .same (a .bits ++ x ++ (b .bits ++ y ++ left)) tt)
@@ -294,4 +298,4 @@ padded room bs left p s =
     }
 
 pub padding-ignored : PaddingIgnored
-padding-ignored room bytes left p h = padded room (bitsOf bytes) left p (steps-of room (bitsOf bytes) left p h)
+padding-ignored room bytes left p h = padded room (bitsOf bytes) left p (omega (arith, length-bitsOf bytes)) (steps-of room (bitsOf bytes) left p h)

@@ -1,5 +1,5 @@
 -- What changes nothing in the pairs that are read of an input, whoever wrote it: the bytes after the image, and the padding of its arrays.
-use Prim.Native.Nat.{ℕ, _<_}
+use Prim.Native.Nat.{ℕ, _%_, _<_}
 use mathlib.Core.Path.{_≡_}
 use mathlib.Core.Bool.{Bool}
 use mathlib.Core.List.{List, [], _++_, map}
@@ -23,13 +23,14 @@ pub record Padded (room : ℕ → Bool) (bits : List ℕ) (p : Pairs) (left : Li
   pub secs : List ℕ
   pub secs-padding : List ℕ
   pub parts : bits ≡ header ++ seqs ++ seqs-padding ++ secs ++ secs-padding ++ left
-  -- the header is five bytes, each array is read to its last bit, and fewer than eight bits pad it
+  -- the header is five bytes, each array is read to its last bit, and fewer than eight bits pad it to a byte
   pub five : length header ≡ 40
   pub values : List ℤ
   pub patterns : p .seqs ≡ map pattern values
   pub seqs-read : readArray 0 room seqs ≡ read values []
   pub secs-read : readArray 1 room secs ≡ read (p .secs) []
-  pub short : (length seqs-padding < 8) × (length secs-padding < 8)
+  pub seqs-padded : (length seqs-padding < 8) × (length (seqs ++ seqs-padding) % 8 ≡ 0)
+  pub secs-padded : (length secs-padding < 8) × (length (secs ++ secs-padding) % 8 ≡ 0)
   -- any other padding as long: the same is read
   pub ignored : (x y : List ℕ) → length x ≡ length seqs-padding → length y ≡ length secs-padding
       → readPairs room (header ++ seqs ++ x ++ secs ++ y ++ left) ≡ read p left
