@@ -43,7 +43,7 @@ unfolding arrayBits
 bits-array xs = bits-append _ _ (bits-natBits 32 (length xs)) (bits-values xs)
 
 -- ---- one array of an image
-bitsOf-append : (a b : List ℕ) → bitsOf (a ++ b) ≡ bitsOf a ++ bitsOf b
+pub bitsOf-append : (a b : List ℕ) → bitsOf (a ++ b) ≡ bitsOf a ++ bitsOf b
 unfolding bitsOf
 bitsOf-append [] b = refl
 bitsOf-append (x ∷ a) b = rw (append-assoc) (ap (λ (ys : List ℕ). natBits 8 x ++ ys) (bitsOf-append a b))
@@ -58,7 +58,7 @@ unfolding sentAfter
 length-sent p e [] = refl
 length-sent p e (x ∷ xs) = ap suc (length-sent x (subS x p) xs)
 
-length-received : (xs : List ℤ) → length (received xs) ≡ length xs
+pub length-received : (xs : List ℤ) → length (received xs) ≡ length xs
 unfolding received
 length-received [] = refl
 length-received (x ∷ xs) = ap suc (length-after x (pos 0) (sentAfter x (pos 0) xs) ∙ length-sent x (pos 0) xs)

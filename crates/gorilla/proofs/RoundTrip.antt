@@ -5,7 +5,7 @@ use mathlib.Core.Bool.{Bool, true, false, cond}
 use mathlib.Core.Logic.{_↔_}
 use mathlib.Core.List.{List, [], _∷_, _++_, map}
 use native.Mathlib.Omega.{arith}
-use lib.ListN.{length, getD, List·getD-eq-default}
+use lib.ListN.{length, getD, length-map, List·getD-eq-default}
 use lib.IntN.{ℤ, pos}
 use mir.Syntax.{w64}
 use mir.Val.{SFits}
@@ -19,13 +19,20 @@ use Rattle.gorilla.specs.Format.{imageBytes}
 use Rattle.gorilla.specs.Reading.{Pairs, readImage, valuesAfter}
 use Rattle.gorilla.proofs.Rows.{by-le}
 use Rattle.gorilla.proofs.Trip.{addS-fits, AllFit, Strict, StrictAfter, received, sentAfter, round-trip, strict-if-back}
-use Rattle.gorilla.proofs.ImageTrip.{image-trip, fits-signed}
+use Rattle.gorilla.proofs.ImageTrip.{image-trip, fits-signed, length-received}
 use Rattle.gorilla.specs.Wide.{Wide, none, found, orElse, wideAfter, wideIn, wideOf}
 use Rattle.gorilla.specs.RoundTrip.{Fit, StrictReadsBack, OthersDoNot}
 
 -- what the list reader makes of pairs that were written
 unfoldable pub receivedPairs : Pairs → Pairs
 receivedPairs p = record { seqs = map pattern (received (map signed (p .seqs))); secs = received (p .secs) }
+
+pub received-lengths : (p : Pairs) → (length (receivedPairs p .seqs) ≡ length (p .seqs)) × (length (receivedPairs p .secs) ≡ length (p .secs))
+unfolding receivedPairs
+received-lengths p = (
+  length-map (received (map signed (p .seqs))) pattern ∙ length-received (map signed (p .seqs)) ∙ length-map (p .seqs) signed,
+  length-received (p .secs),
+)
 
 all-small : (us : List ℕ) → ((i : ℕ) → i < length us → getD us i 0 < 2 ^ 64) → (j : ℕ) → getD us j 0 < 2 ^ 64
 all-small us f j = by-le (length us) j (λ h. rw (List·getD-eq-default us 0 h) (omega arith)) (f j)

@@ -7,4 +7,5 @@ pub mod Parser
 pub mod Reading
 pub mod Places
 pub mod RoundTrip
+pub mod Ignored
 pub mod Array

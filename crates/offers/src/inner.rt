@@ -11,7 +11,7 @@ use tracker::Refusal;
 use tracker::Second;
 use tracker::Seq;
 use tracker::SequenceTracker;
-use tracker::inner as checks;
+use limits::inner as checks;
 
 // A recorded pair leaves a good table good, so a list of offers checks its table once.
 pub fn offer_good(

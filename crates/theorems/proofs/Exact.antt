@@ -1,4 +1,4 @@
--- With room for the image a strict save is refused with 20 exactly where the image reads back as other pairs, and writes it exactly where it reads back.
+-- With room for the image a strict save is refused, and then with 20, exactly where the image reads back as other pairs, and writes it exactly where it reads back.
 use mathlib.Core.Path.{_≡_, refl, sym, ap, _∙_}
 use mathlib.Core.Logic.{_↔_}
 use mathlib.Core.List.{List, [], _∷_}
@@ -17,23 +17,24 @@ use Rattle.gorilla.proofs.RoundTrip.{receivedPairs, reads, exact}
 use Rattle.order.proofs.Bools.{not-given}
 use Rattle.encoder.specs.Encode.{wideRule, roomRule}
 use Rattle.decoder.specs.Decode.{listed}
-use Rattle.theorems.specs.Run.{Table, Reload, Lent, keptIn, imageFor, saveTo, encodeTo, readBack, RefusedWith, ReadsOthers}
+use Rattle.offers.specs.Whole.{Table}
+use Rattle.theorems.specs.Run.{Reload, Lent, keptIn, imageFor, strictTo, saveTo, readBack, Refused, RefusedWith, ReadsOthers}
 use Rattle.theorems.proofs.Sound.{Sound}
 use Rattle.theorems.proofs.Reload.{kept-fit, seqs-long, at-most, both-pass, save-is, wrote}
 
 module _ (w : Table) (S : Sound w) (l : Reload) (lent : Lent (l .seqs) (l .secs)) (room : length (imageFor w) ≤ length (l .out)) where
-  encode-is : encodeTo w (l .out) ≡ gave (length (imageFor w))
+  plain-is : saveTo w (l .out) ≡ gave (length (imageFor w))
   unfolding roomRule
-  encode-is = both-pass w S _ ∙ rw (le-ltb (length (l .out)) (length (imageFor w)) room)
+  plain-is = rw (S .good) (both-pass w S _ ∙ rw (le-ltb (length (l .out)) (length (imageFor w)) room))
 
-  strict-is : saveTo w (l .out) ≡ wideRule (wideOf (keptIn w .seqs) (keptIn w .secs)) (gave (length (imageFor w)))
+  strict-is : strictTo w (l .out) ≡ wideRule (wideOf (keptIn w .seqs) (keptIn w .secs)) (gave (length (imageFor w)))
   unfolding roomRule
   strict-is = save-is w S (l .out) ∙ rw (le-ltb (length (l .out)) (length (imageFor w)) room)
 
   comes-back : readBack w l ≡ read (receivedPairs (keptIn w)) (bitsOf (l .following))
   unfolding listed
   comes-back =
-      rw (encode-is, take-at (imageFor w) (drop (length (imageFor w)) (l .out)) (length (imageFor w)) refl)
+      rw (plain-is, take-at (imageFor w) (drop (length (imageFor w)) (l .out)) (length (imageFor w)) refl)
       (reads (keptIn w) (λ k. leb k (min (length (l .seqs)) (length (l .secs)))) (l .following) (kept-fit w S)
       (le-leb (length (keptIn w .seqs)) (min (length (l .seqs)) (length (l .secs))) (omega (arith, seqs-long w S, at-most w S, lent .0, lent .1))))
 
@@ -45,22 +46,25 @@ module _ (w : Table) (S : Sound w) (l : Reload) (lent : Lent (l .seqs) (l .secs)
       let x = exact (keptIn w) (kept-fit w S) in
       (λ h. x .1 (sym j ∙ h), λ h. j ∙ x .0 h)
 
-  pub refuses : RefusedWith 20 (saveTo w (l .out)) ↔ ReadsOthers w l
-  refuses =
+  pub exactly : (Refused (strictTo w (l .out)) ↔ ReadsOthers w l) × (Refused (strictTo w (l .out)) → RefusedWith 20 (strictTo w (l .out)))
+  exactly =
       let x = wideOf (keptIn w .seqs) (keptIn w .secs) in (
-        λ r. (receivedPairs (keptIn w), comes-back, λ h. narrow x (r .0) (sym strict-is ∙ r .1) (exact (keptIn w) (kept-fit w S) .1 h)),
-        λ k. let r = wide x (λ z. k .2 (same-back (k .0) (k .1) .1 z)) in (r .0, strict-is ∙ r .1),
+        (
+          λ r. (receivedPairs (keptIn w), comes-back, λ h. narrow x (r .0) (sym strict-is ∙ r .1) (exact (keptIn w) (kept-fit w S) .1 h)),
+          λ k. let r = wide x (λ z. k .2 (same-back (k .0) (k .1) .1 z)) in (20 ∷ r .0, strict-is ∙ r .1),
+        ),
+        λ r. let t = wide x (narrow x (r .0) (sym strict-is ∙ r .1)) in (t .0, strict-is ∙ t .1),
       )
     where
-      narrow : (x : Wide) (more : List ℕ) → wideRule x (gave (length (imageFor w))) ≡ refused (20 ∷ more) → x ≡ none → ⊥
-      narrow none more h z = not-given (20 ∷ more) (length (imageFor w)) (sym h)
-      narrow (found a i) more h z = let z : _≡_ {A = ℕ} 0 1 = cc in omega arith
+      narrow : (x : Wide) (what : List ℕ) → wideRule x (gave (length (imageFor w))) ≡ refused what → x ≡ none → ⊥
+      narrow none what h z = not-given what (length (imageFor w)) (sym h)
+      narrow (found a i) what h z = let z : _≡_ {A = ℕ} 0 1 = cc in omega arith
 
       wide : (x : Wide) → (x ≡ none → ⊥) → RefusedWith 20 (wideRule x (gave (length (imageFor w))))
       wide none h = absurd (h refl)
       wide (found a i) h = (a ∷ i ∷ [], refl)
 
-  pub writes : (saveTo w (l .out) ≡ gave (length (imageFor w))) ↔ (readBack w l ≡ read (keptIn w) (bitsOf (l .following)))
+  pub writes : (strictTo w (l .out) ≡ gave (length (imageFor w))) ↔ (readBack w l ≡ read (keptIn w) (bitsOf (l .following)))
   writes = (
     λ e. comes-back ∙ ap (λ (p : Pairs). read p (bitsOf (l .following))) (exact (keptIn w) (kept-fit w S) .0 (wrote w S (l .out) (length (imageFor w)) e .0)),
     λ e. let z = same-back (keptIn w) e .0 refl in strict-is ∙ rw z,

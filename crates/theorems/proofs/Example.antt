@@ -14,7 +14,8 @@ use Rattle.gorilla.specs.Rows.{rowOf, strict}
 use Rattle.gorilla.specs.Wide.{wideAfter, wideIn, wideOf}
 use Rattle.offers.specs.Keep.{evens}
 use Rattle.encoder.specs.Encode.{arraysRule, roomRule}
-use Rattle.theorems.specs.Run.{Table, new, Event, offered, reloaded, step, ranTo}
+use Rattle.offers.specs.Whole.{Table}
+use Rattle.theorems.specs.Run.{new, Event, offered, reloaded, step, ranTo}
 
 offer : ℕ → ℕ → Event
 offer seq ts = offered (record { 0 = seq }) (record { 0 = pos ts })

@@ -3,6 +3,7 @@ mod Kept
 mod Sound
 mod Reload
 mod Exact
+mod Logged
 pub mod Run
 mod Example
 pub mod Cases

@@ -27,7 +27,8 @@ use Rattle.offers.proofs.Rise.{over-length}
 use Rattle.encoder.specs.Encode.{arraysRule, wideRule, roomRule}
 use Rattle.settling.specs.Settle.{lastOf}
 use Rattle.restoring.specs.Restore.{readTable, judged}
-use Rattle.theorems.specs.Run.{Table, Reload, Lent, keptIn, imageFor, saveTo, stored, restoreTo, restoredTo, reloadedTo}
+use Rattle.offers.specs.Whole.{Table}
+use Rattle.theorems.specs.Run.{Reload, Lent, keptIn, imageFor, strictTo, stored, restoreTo, restoredTo, reloadedTo}
 use Rattle.theorems.proofs.Kept.{inside-fits}
 use Rattle.theorems.proofs.Sound.{Sound, Same, agreed-in, same-self}
 
@@ -118,11 +119,11 @@ module _ (w : Table) (S : Sound w) where
   unfolding arraysRule
   both-pass else = rw (seqs-long, secs-long, eq-eqb (w .state .count) (w .state .count) refl, le-ltb 65536 (w .state .count) (omega (arith, at-most)))
 
-  pub save-is : (out : List ℕ) → saveTo w out ≡ wideRule (wideOf (keptIn w .seqs) (keptIn w .secs)) (roomRule (length (imageFor w)) (length out))
+  pub save-is : (out : List ℕ) → strictTo w out ≡ wideRule (wideOf (keptIn w .seqs) (keptIn w .secs)) (roomRule (length (imageFor w)) (length out))
   save-is out = rw (S .good) (both-pass _)
 
   -- a save that wrote found no wide difference, and wrote the image
-  pub wrote : (out : List ℕ) (n : ℕ) → saveTo w out ≡ gave n → (wideOf (keptIn w .seqs) (keptIn w .secs) ≡ none) × (length (imageFor w) ≡ n)
+  pub wrote : (out : List ℕ) (n : ℕ) → strictTo w out ≡ gave n → (wideOf (keptIn w .seqs) (keptIn w .secs) ≡ none) × (length (imageFor w) ≡ n)
   unfolding roomRule
   wrote out n e = go (wideOf (keptIn w .seqs) (keptIn w .secs)) (ltb (length out) (length (imageFor w))) (sym (save-is out) ∙ e)
     where
@@ -132,11 +133,11 @@ module _ (w : Table) (S : Sound w) where
       go (found a i) b h = absurd (not-given (20 ∷ a ∷ i ∷ []) n h)
 
   module _ (l : Reload) where
-    module _ (n : ℕ) (e : saveTo w (l .out) ≡ gave n) where
-      stored-is : stored w l ≡ imageFor w ++ l .following
+    module _ (n : ℕ) (e : strictTo w (l .out) ≡ gave n) where
+      stored-is : stored strictTo w l ≡ imageFor w ++ l .following
       stored-is = rw (e, take-at (imageFor w) (drop (length (imageFor w)) (l .out)) n (wrote (l .out) n e .1))
 
-      reads-back : readTable (stored w l) ≡ read (keptIn w) (bitsOf (l .following))
+      reads-back : readTable (stored strictTo w l) ≡ read (keptIn w) (bitsOf (l .following))
       reads-back =
           ap readTable stored-is
           ∙ strict-reads-back (keptIn w) (λ k. leb k 8192) (l .following) kept-fit (le-leb (length (keptIn w .seqs)) 8192 (omega (arith, seqs-long, at-most))) (wrote (l .out) n e .0)
@@ -152,16 +153,16 @@ module _ (w : Table) (S : Sound w) where
       restores lent = (state-restored lent, ap keptIn (reload-is lent) ∙ moved-kept (l .seqs) (l .secs) lent)
 
     module _ (lent : Lent (l .seqs) (l .secs)) where
-      pub reload-sound : Sound (reloadedTo w l (saveTo w (l .out)))
-      reload-sound = go (saveTo w (l .out)) refl
+      pub reload-sound : Sound (reloadedTo w l (strictTo w (l .out)))
+      reload-sound = go (strictTo w (l .out)) refl
         where
-          go : (told : Told ℕ) → saveTo w (l .out) ≡ told → Sound (reloadedTo w l told)
+          go : (told : Told ℕ) → strictTo w (l .out) ≡ told → Sound (reloadedTo w l told)
           go (gave n) e = rw (reload-is n e lent) (moved-sound (l .seqs) (l .secs) lent)
           go (refused what) e = S
 
-      pub reload-same : Same (reloadedTo w l (saveTo w (l .out))) w
-      reload-same = go (saveTo w (l .out)) refl
+      pub reload-same : Same (reloadedTo w l (strictTo w (l .out))) w
+      reload-same = go (strictTo w (l .out)) refl
         where
-          go : (told : Told ℕ) → saveTo w (l .out) ≡ told → Same (reloadedTo w l told) w
+          go : (told : Told ℕ) → strictTo w (l .out) ≡ told → Same (reloadedTo w l told) w
           go (gave n) e = rw (reload-is n e lent) (moved-same (l .seqs) (l .secs) lent)
           go (refused what) e = same-self w S

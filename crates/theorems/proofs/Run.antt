@@ -9,10 +9,12 @@ use Rattle.tracker.specs.Table.{checkOf}
 use Rattle.lookup.specs.Laws.{SameKept}
 use Rattle.lookup.proofs.Laws.{kept-ts, kept-seq}
 use Rattle.offers.specs.Offer.{Outcome}
-use Rattle.theorems.specs.Run.{Table, new, Event, offered, reloaded, step, ranTo, answers, offersIn, Proper, Unharmed, Demand}
+use Rattle.offers.specs.Whole.{Table}
+use Rattle.theorems.specs.Run.{new, Event, offered, reloaded, step, ranTo, answers, offersIn, Proper, Unharmed, Demand}
 use Rattle.theorems.proofs.Sound.{Sound, Same, offered-sound, offered-told, offered-same, new-sound, same-self, same-trans}
 use Rattle.theorems.proofs.Reload.{restores, reload-sound, reload-same}
-use Rattle.theorems.proofs.Exact.{refuses, writes}
+use Rattle.theorems.proofs.Exact.{exactly, writes}
+use Rattle.theorems.proofs.Logged.{same-kept, log-same, pairs-same, extend-same, extend-by-same}
 
 -- what a run keeps up, of the table w that it has led to and the table v of the offers alone
 record Kept (w v : Table) : Type 0 where
@@ -51,14 +53,18 @@ unharmed w v K =
     } in
     record {
       good = K .sound .good;
-      pairs = rw (← M .state) (λ i. record { seqs = a .same-seqs i; secs = a .same-secs i });
+      pairs = same-kept w v M;
       state = M .state;
+      by-log = log-same w v (K .sound .good) (K .sound′ .good) M;
+      by-pairs = pairs-same w v (K .sound .good) (K .sound′ .good) M;
+      by-other = extend-same w v (K .sound .good) (K .sound′ .good) M;
+      as-other = extend-by-same w v (K .sound .good) (K .sound′ .good) M;
       by-seq = λ x opt. rw (← M .state) (kept-ts (w .state) (w .seqs) (v .seqs) (w .secs) (v .secs) x opt k);
       by-second = λ x opt. rw (← M .state) (kept-seq (w .state) (w .seqs) (v .seqs) (w .secs) (v .secs) x opt k);
+      by-strict = λ out. rw (← M .state) (rw (K .sound .good, there, a .same-seqs, a .same-secs) (refl, refl));
       by-save = λ out. rw (← M .state) (rw (K .sound .good, there, a .same-seqs, a .same-secs) (refl, refl));
       restores = λ l n h e. restores w (K .sound) l n e h;
-      refuses = λ l room lent. refuses w (K .sound) l lent room;
-      writes = λ l room lent. writes w (K .sound) l lent room;
+      exact = λ l room lent. let e = exactly w (K .sound) l lent room in (e .0, e .1, writes w (K .sound) l lent room);
     }
 
 pub demand : Demand

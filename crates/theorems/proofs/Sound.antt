@@ -14,12 +14,13 @@ use Rattle.tracker.specs.declared.Seq.{Seq}
 use Rattle.tracker.specs.declared.Second.{Second}
 use Rattle.tracker.specs.declared.SequenceTracker.{SequenceTracker}
 use Rattle.tracker.proofs.Good.{Agreed, fine, count-seqs}
-use Rattle.offers.specs.Offer.{Outcome, recorded, skipped}
+use Rattle.offers.specs.Offer.{Outcome, recorded, skipped, offerTo, offeredTo}
 use Rattle.offers.proofs.Preserved.{taken, stays-good, recorded-count}
 use Rattle.offers.proofs.Alike.{Alike, alike-told, alike-after}
 use Rattle.offers.proofs.Newest.{newest-sec}
 use Rattle.settling.specs.Settle.{lastOf}
-use Rattle.theorems.specs.Run.{Table, new, keptIn, offerTo, offeredTo, Lent}
+use Rattle.offers.specs.Whole.{Table}
+use Rattle.theorems.specs.Run.{new, keptIn, Lent}
 use Rattle.theorems.proofs.Kept.{kept-all, some-kept}
 
 -- a good table with the default settings, whose last recorded second is the last that it keeps, and whose sequences are u64s

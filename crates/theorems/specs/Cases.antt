@@ -1,66 +1,47 @@
--- Document 01's cases P1 to P12, and those that it only runs, as one table: what goes in, and what must come out.
+-- Document 01's cases P1 to P12, those that it only runs, and those that its rules name, as one table: what goes in, and what must come out.
 use Prim.Native.Nat.{ℕ}
+use Prim.Native.String.{String}
 use mathlib.Core.Path.{_≡_}
 use mathlib.Core.List.{List, [], _∷_, _++_, map}
-use lib.ListN.{length, replicate}
+use lib.ListN.{length, take, replicate}
 use lib.IntN.{ℤ, pos, negℤ}
 use Rattle.told.specs.Told.{Told, gave, refused}
 use Rattle.told.specs.Over.{over}
-use Rattle.signed.specs.Signed.{signed}
-use Rattle.gorilla.specs.Format.{codeBits, codesBits}
-use Rattle.gorilla.specs.Steps.{advanced}
+use Rattle.signed.specs.Signed.{signed, subS}
+use Rattle.signed.specs.Extend.{extendRule}
+use Rattle.gorilla.specs.Format.{codeBits}
+use Rattle.gorilla.specs.Parser.{read}
+use Rattle.gorilla.specs.Reading.{Pairs, readCode}
 use Rattle.limits.specs.Settings.{roomOf}
-use Rattle.fresh.specs.Fresh.{emptyTable}
+use Rattle.fresh.specs.Fresh.{freshTable, emptyTable}
 use Rattle.tracker.specs.declared.Second.{Second}
 use Rattle.tracker.specs.declared.TrackedSeq.{TrackedSeq}
 use Rattle.tracker.specs.declared.LastRecorded.the-variants.{At}
 use Rattle.lookup.specs.Find.{Partner, partner, nothing, findTs}
 use Rattle.lookup.specs.declared.FindOption.{FindOption}
 use Rattle.lookup.specs.declared.FindOption.the-variants.{RoundUp, RoundDown}
-use Rattle.offers.specs.Offer.{Outcome, recorded, skipped}
+use Rattle.offers.specs.Offer.{skipped, offerTo}
+use Rattle.log.specs.Log.{Log, stopped, logOf}
 use Rattle.encoder.specs.Encode.{lenRule, encodeRule, strictRule, encodedIn}
-use Rattle.decoder.specs.Decode.{decodeRule}
-use Rattle.theorems.specs.Run.{Table, offered, keptIn, offerTo, ranTo}
+use Rattle.decoder.specs.Decode.{decodeRule, seqsAfter, secsAfter}
+use Rattle.offers.specs.Whole.{Table}
+use Rattle.report.specs.Ascii.{ascii}
+use Rattle.report.specs.Listing.{listingOf}
+use Rattle.theorems.specs.Run.{offered, keptIn, ranTo}
 
--- ---- the kinds of cases
+-- ---- what goes in
 
--- offers are made in order to an empty table with the capacity and the interval named
-pub record Offers : Type 0 where
-  pub capacity : ℕ
-  pub interval : ℕ
-  pub offers : List TrackedSeq
+abbrev pub second : ℕ → Second
+second s = record { 0 = pos s }
 
-pub data Case : Type 0 where
-  -- `encoded_len` of these pairs tells so many bytes
-  measures : List TrackedSeq → ℕ → Case
-  -- `encode` of these pairs writes these bytes, over a buffer that held others, and no byte past them
-  encodes : List TrackedSeq → List ℕ → Case
-  -- `encode_strict` of these pairs tells this
-  strictly : List TrackedSeq → Told ℕ → Case
-  -- the second of two sequences has this difference of deltas, and so its code
-  differs : ℕ → ℕ → ℤ → Case
-  -- the code of this difference of deltas
-  coded : ℤ → List ℕ → Case
-  -- the bits that it takes in all
-  codedIn : ℤ → ℕ → Case
-  -- the list reader tells this of these bytes
-  decodes : List ℕ → Told ℕ → Case
-  -- after these offers the table keeps these pairs, and this is the last recorded second
-  keeps : Offers → List TrackedSeq → ℕ → Case
-  -- after these offers one more tells this
-  next : Offers → TrackedSeq → Told Outcome → Case
-  -- after these offers `find_ts` tells this of a sequence
-  finds : Offers → ℕ → FindOption → Told (Partner Second) → Case
+-- a pair of a sequence and a second
+abbrev pub pair : ℕ → ℕ → TrackedSeq
+pair seq s = record { seq = record { 0 = seq }; ts = second s }
 
--- ---- when a case holds
+abbrev pub pairsIn : List TrackedSeq → Pairs
+pairsIn l = record { seqs = map (λ r. r .seq .0) l; secs = map (λ r. r .ts .0) l }
 
-abbrev pub seqsOf : List TrackedSeq → List ℕ
-seqsOf l = map (λ r. r .seq .0) l
-
-abbrev pub secsOf : List TrackedSeq → List ℤ
-secsOf l = map (λ r. r .ts .0) l
-
--- a lent buffer, and lent arrays, that hold something already
+-- a lent buffer, and lent arrays of so many places, which hold something already
 abbrev pub buffer : List ℕ
 buffer = replicate 64 0xFF
 
@@ -70,160 +51,147 @@ oldSeqs n = replicate n 7
 abbrev pub oldSecs : ℕ → List ℤ
 oldSecs n = replicate n (pos 7)
 
--- an empty table in arrays of just the room that it needs
-abbrev pub emptied : ℕ → ℕ → Table
-emptied capacity interval = record { state = emptyTable capacity interval; seqs = oldSeqs (roomOf capacity); secs = oldSecs (roomOf capacity) }
+-- an empty table of this capacity and interval, in arrays of just the room that it needs, after these offers in order
+abbrev pub offeredAll : ℕ → ℕ → List TrackedSeq → Table
+offeredAll capacity interval l =
+    ranTo (record { state = emptyTable capacity interval; seqs = oldSeqs (roomOf capacity); secs = oldSecs (roomOf capacity) })
+    (map (λ r. offered (r .seq) (r .ts)) l)
 
--- the table after the offers
-abbrev pub afterAll : Offers → Table
-afterAll o = ranTo (emptied (o .capacity) (o .interval)) (map (λ r. offered (r .seq) (r .ts)) (o .offers))
+-- the first n of P8's offers
+abbrev pub firstOf : ℕ → List TrackedSeq
+firstOf n = take n (pair 1 10 ∷ pair 2 20 ∷ pair 3 30 ∷ pair 4 40 ∷ pair 5 50 ∷ [])
 
-unfoldable pub Holds : Case → Type 0
-Holds (measures l n) = lenRule (seqsOf l) (secsOf l) ≡ gave n
-Holds (encodes l bytes) =
-    (encodeRule (seqsOf l) (secsOf l) (length buffer) ≡ gave (length bytes))
-    × (encodedIn (seqsOf l) (secsOf l) (gave (length bytes)) buffer ≡ over bytes buffer)
-Holds (strictly l told) = strictRule (seqsOf l) (secsOf l) (length buffer) ≡ told
-Holds (differs p q d) =
-    (advanced (record { prev = signed p; delta = pos 0 }) (signed q) .dod ≡ d)
-    × (codesBits (signed p) (pos 0) (signed q ∷ []) ≡ codeBits d)
-Holds (coded d bits) = codeBits d ≡ bits
-Holds (codedIn d n) = length (codeBits d) ≡ n
-Holds (decodes bytes told) = decodeRule bytes (oldSeqs 9) (oldSecs 9) ≡ told
-Holds (keeps o l last) =
-    (keptIn (afterAll o) ≡ record { seqs = seqsOf l; secs = secsOf l })
-    × (afterAll o .state .«last_recorded_ts» ≡ At (record { 0 = pos last }))
-Holds (next o r told) = offerTo (afterAll o) (r .seq) (r .ts) ≡ told
-Holds (finds o seq opt told) = findTs (afterAll o .state) (afterAll o .seqs) (afterAll o .secs) (record { 0 = seq }) opt ≡ told
+-- P5's image; its two last bytes of codes end with four and with seven bits of padding
+abbrev pub fifth : ℕ → ℕ → List ℕ
+fifth x y =
+    0x01 ∷ 0x02 ∷ 0x00 ∷ 0x00 ∷ 0x00
+    ∷ 0x00 ∷ 0x00 ∷ 0x00 ∷ 0x02 ∷ 0x00 ∷ 0x00 ∷ 0x00 ∷ 0x00 ∷ 0x00 ∷ 0x00 ∷ 0x00 ∷ 0x64 ∷ 0xC4 ∷ x
+    ∷ 0x00 ∷ 0x00 ∷ 0x00 ∷ 0x02 ∷ 0x00 ∷ 0x00 ∷ 0x00 ∷ 0x00 ∷ 0x00 ∷ 0x00 ∷ 0x00 ∷ 0x00 ∷ 0x9E ∷ y ∷ []
 
--- P holds of each element
-unfoldable pub All : {A : Type 0} → (A → Type 0) → List A → Type 0
-All P [] = Unit {0}
-All P (x ∷ xs) = P x × All P xs
+-- an image's header, and the same count of its sequences
+abbrev pub begun : ℕ → List ℕ
+begun count = 0x01 ∷ count ∷ 0 ∷ 0 ∷ 0 ∷ 0 ∷ 0 ∷ 0 ∷ count ∷ []
 
--- ---- the cases, each under document 01's words
+-- ---- what must come out: the kinds of cases
 
--- a pair of a sequence and a second
-abbrev pub pair : ℕ → ℕ → TrackedSeq
-pair seq ts = record { seq = record { 0 = seq }; ts = record { 0 = pos ts } }
+-- `sign_extend` of this many low bits
+abbrev pub ExtendsTo : ℕ → ℕ → ℤ → Type 0
+ExtendsTo value bits d = extendRule value bits ≡ gave d
 
--- P8's offers; the first four of them, and the first two
-abbrev pub two : List TrackedSeq
-two = pair 1 10 ∷ pair 2 20 ∷ []
+-- `encoded_len` of these pairs
+abbrev pub LengthIs : List TrackedSeq → ℕ → Type 0
+LengthIs l n = lenRule (pairsIn l .seqs) (pairsIn l .secs) ≡ gave n
 
-abbrev pub four : List TrackedSeq
-four = two ++ (pair 3 30 ∷ pair 4 40 ∷ [])
+-- `encode` of these pairs writes these bytes over what the buffer held, and no byte past them
+abbrev pub WritesImage : List TrackedSeq → List ℕ → Type 0
+WritesImage l bytes =
+    (encodeRule (pairsIn l .seqs) (pairsIn l .secs) (length buffer) ≡ gave (length bytes))
+    × (encodedIn (pairsIn l .seqs) (pairsIn l .secs) (gave (length bytes)) buffer ≡ over bytes buffer)
 
-abbrev pub five : List TrackedSeq
-five = four ++ (pair 5 50 ∷ [])
+-- `encode_strict` of these pairs
+abbrev pub StrictTells : List TrackedSeq → Told ℕ → Type 0
+StrictTells l told = strictRule (pairsIn l .seqs) (pairsIn l .secs) (length buffer) ≡ told
 
-abbrev pub offersOf : ℕ → ℕ → List TrackedSeq → Offers
-offersOf capacity interval offers = record { capacity = capacity; interval = interval; offers = offers }
+-- the difference of deltas at the second of two sequences
+abbrev pub DifferenceIs : ℕ → ℕ → ℤ → Type 0
+DifferenceIs p q d = subS (subS (signed q) (signed p)) (pos 0) ≡ d
 
--- recorded, with so many pairs kept and this second the last recorded one
-abbrev pub recordedBy : Offers → ℕ → ℕ → Told Outcome
-recordedBy o count last =
-    gave (recorded (record { count = count; capacity = o .capacity; «interval_secs» = o .interval; «last_recorded_ts» = At (record { 0 = pos last }) }))
+-- the code of a difference of deltas, and how many bits it takes
+abbrev pub CodeIs : ℤ → List ℕ → Type 0
+CodeIs d bits = codeBits d ≡ bits
 
-abbrev pub secondIs : ℕ → Told (Partner Second)
-secondIs s = gave (partner (record { 0 = pos s }))
+abbrev pub CodeTakes : ℤ → ℕ → Type 0
+CodeTakes d n = length (codeBits d) ≡ n
 
--- an image of so many pairs, cut off after its first sequence
-abbrev pub cutAfterFirst : ℕ → List ℕ
-cutAfterFirst count = 0x01 ∷ count ∷ 0 ∷ 0 ∷ 0 ∷ 0 ∷ 0 ∷ 0 ∷ count ∷ replicate 8 0
+-- the reader takes these bits, all of them, as the code of this difference
+abbrev pub ReadAs : List ℕ → ℤ → Type 0
+ReadAs bits d = readCode 0 1 bits ≡ read d []
 
--- empty image: 01 and twelve 00, length 13
-unfoldable pub P1 : List Case
-P1 = encodes [] (0x01 ∷ replicate 12 0x00) ∷ measures [] 13 ∷ []
+-- `decode` of these bytes into two arrays of so many places
+abbrev pub DecodeTells : ℕ → List ℕ → Told ℕ → Type 0
+DecodeTells room bytes told = decodeRule bytes (oldSeqs room) (oldSecs room) ≡ told
 
--- sequence 5, second 60: length 29
-unfoldable pub P2 : List Case
-P2 = measures (pair 5 60 ∷ []) 29 ∷ []
+-- and it fills in these pairs, over what the arrays held, and no place past them
+abbrev pub DecodesTo : ℕ → List ℕ → List TrackedSeq → Type 0
+DecodesTo room bytes l =
+    DecodeTells room bytes (gave (length l))
+    × (seqsAfter bytes (oldSeqs room) (oldSecs room) ≡ over (pairsIn l .seqs) (oldSeqs room))
+    × (secsAfter bytes (oldSeqs room) (oldSecs room) ≡ over (pairsIn l .secs) (oldSecs room))
 
--- d = 63: 9 bits; 64: 12
-unfoldable pub P3 : List Case
-P3 = codedIn (pos 63) 9 ∷ codedIn (pos 64) 12 ∷ []
+-- a table keeps these pairs, and this is the last recorded second
+abbrev pub Keeps : Table → List TrackedSeq → ℕ → Type 0
+Keeps w l last = (keptIn w ≡ pairsIn l) × (w .state .«last_recorded_ts» ≡ At (second last))
 
--- d = -64: 110 111000000; -256: 16 bits; -2048: 36
-unfoldable pub P4 : List Case
-P4 =
-    coded (negℤ (pos 64)) (1 ∷ 1 ∷ 0 ∷ 1 ∷ 1 ∷ 1 ∷ 0 ∷ 0 ∷ 0 ∷ 0 ∷ 0 ∷ 0 ∷ [])
-    ∷ codedIn (negℤ (pos 256)) 16
-    ∷ codedIn (negℤ (pos 2048)) 36
-    ∷ []
+-- one more offer is skipped
+abbrev pub Skips : Table → TrackedSeq → Type 0
+Skips w r = offerTo w (r .seq) (r .ts) ≡ gave skipped
 
--- (100,0),(164,60): 01 02000000 00000002 0000000000000064 C400 00000002 0000000000000000 9E00
-unfoldable pub P5 : List Case
-P5 =
-    encodes (pair 100 0 ∷ pair 164 60 ∷ [])
-    (0x01 ∷ 0x02 ∷ 0x00 ∷ 0x00 ∷ 0x00
-    ∷ 0x00 ∷ 0x00 ∷ 0x00 ∷ 0x02 ∷ 0x00 ∷ 0x00 ∷ 0x00 ∷ 0x00 ∷ 0x00 ∷ 0x00 ∷ 0x00 ∷ 0x64 ∷ 0xC4 ∷ 0x00
-    ∷ 0x00 ∷ 0x00 ∷ 0x00 ∷ 0x02 ∷ 0x00 ∷ 0x00 ∷ 0x00 ∷ 0x00 ∷ 0x00 ∷ 0x00 ∷ 0x00 ∷ 0x00 ∷ 0x9E ∷ 0x00 ∷ [])
-    ∷ []
+-- a list of offers
+abbrev pub LogTells : Table → List TrackedSeq → Told Log → Type 0
+LogTells w l told = logOf w l .answer ≡ told
 
--- sequences 0, 1, seconds 0, 2147483648: strict 20, seconds (array 1), index 1; 2147483647 is written (36 bytes)
-unfoldable pub P6 : List Case
-P6 =
-    strictly (pair 0 0 ∷ pair 1 2147483648 ∷ []) (refused (20 ∷ 1 ∷ 1 ∷ []))
-    ∷ strictly (pair 0 0 ∷ pair 1 2147483647 ∷ []) (gave 36)
-    ∷ []
+-- `find_ts` of a sequence
+abbrev pub Finds : Table → ℕ → FindOption → Partner Second → Type 0
+Finds w seq opt found = findTs (w .state) (w .seqs) (w .secs) (record { 0 = seq }) opt ≡ gave found
 
--- sequences 0, 18446744073709551615, seconds 0, 0: d = -1, 9 bits, written strictly (32 bytes)
-unfoldable pub P7 : List Case
-P7 =
-    differs 0 18446744073709551615 (negℤ (pos 1))
-    ∷ codedIn (negℤ (pos 1)) 9
-    ∷ strictly (pair 0 0 ∷ pair 18446744073709551615 0 ∷ []) (gave 32)
-    ∷ []
+-- the program `listing`
+abbrev pub Prints : List ℕ → String → Type 0
+Prints input text = listingOf input ≡ ascii text
 
--- capacity 4, interval 0, (1,10),(2,20),(3,30),(4,40),(5,50): (1,10),(3,30),(5,50)
-unfoldable pub P8 : List Case
-P8 = keeps (offersOf 4 0 five) (pair 1 10 ∷ pair 3 30 ∷ pair 5 50 ∷ []) 50 ∷ []
+-- ---- the table, each case under document 01's words
 
--- capacity 3, first four: (1,10),(3,30), last recorded 40; then (3,45) is recorded and (9,39), offered instead, skipped
-unfoldable pub P9 : List Case
-P9 =
-    keeps (offersOf 3 0 four) (pair 1 10 ∷ pair 3 30 ∷ []) 40
-    ∷ next (offersOf 3 0 four) (pair 3 45) (recordedBy (offersOf 3 0 four) 3 45)
-    ∷ keeps (offersOf 3 0 (four ++ (pair 3 45 ∷ []))) (pair 1 10 ∷ pair 3 30 ∷ pair 3 45 ∷ []) 45
-    ∷ next (offersOf 3 0 four) (pair 9 39) (gave skipped)
-    ∷ []
-
--- capacity 0, first two: (1,10), last recorded 20
-unfoldable pub P10 : List Case
-P10 = keeps (offersOf 0 0 two) (pair 1 10 ∷ []) 20 ∷ []
-
--- interval 60 after 100: 159 and 99 skipped, 160 recorded
-unfoldable pub P11 : List Case
-P11 =
-    next (offersOf 8192 60 (pair 1 100 ∷ [])) (pair 2 159) (gave skipped)
-    ∷ next (offersOf 8192 60 (pair 1 100 ∷ [])) (pair 2 99) (gave skipped)
-    ∷ next (offersOf 8192 60 (pair 1 100 ∷ [])) (pair 2 160) (recordedBy (offersOf 8192 60 (pair 1 100 ∷ [])) 2 160)
-    ∷ []
-
--- in P8's table sequence 2: up 30, down 10; 6 up and 0 down: nothing
-unfoldable pub P12 : List Case
-P12 =
-    finds (offersOf 4 0 five) 2 RoundUp (secondIs 30)
-    ∷ finds (offersOf 4 0 five) 2 RoundDown (secondIs 10)
-    ∷ finds (offersOf 4 0 five) 6 RoundUp (gave nothing)
-    ∷ finds (offersOf 4 0 five) 0 RoundDown (gave nothing)
-    ∷ []
-
--- run only, in the sequences (array 0): count 2, the first value, then byte 80 gives 8 with width 7; no byte gives 6; count 9 and byte 01 gives 7 at index 8. Input 02 is refused with 2
-unfoldable pub runOnly : List Case
-runOnly =
-    decodes (cutAfterFirst 2 ++ (0x80 ∷ [])) (refused (8 ∷ 0 ∷ 1 ∷ 7 ∷ []))
-    ∷ decodes (cutAfterFirst 2) (refused (6 ∷ 0 ∷ 1 ∷ []))
-    ∷ decodes (cutAfterFirst 9 ++ (0x01 ∷ [])) (refused (7 ∷ 0 ∷ 8 ∷ []))
-    ∷ decodes (0x02 ∷ []) (refused (2 ∷ 2 ∷ []))
-    ∷ []
-
--- ---- the table, and the one statement
-
-unfoldable pub table : List (List Case)
-table = P1 ∷ P2 ∷ P3 ∷ P4 ∷ P5 ∷ P6 ∷ P7 ∷ P8 ∷ P9 ∷ P10 ∷ P11 ∷ P12 ∷ runOnly ∷ []
-
--- each row of each case holds
-abbrev pub AllHold : Type 0
-AllHold = All (All Holds) table
+pub record Cases : Type 0 where
+  -- Extension of 64 in 7 bits is -64; of 63 it is 63
+  pub extension : ExtendsTo 64 7 (negℤ (pos 64)) × ExtendsTo 63 7 (pos 63)
+  -- empty image: 01 and twelve 00, length 13
+  pub P1 : WritesImage [] (0x01 ∷ replicate 12 0x00) × LengthIs [] 13
+  -- sequence 5, second 60: length 29
+  pub P2 : LengthIs (pair 5 60 ∷ []) 29
+  -- d = 63: 9 bits; 64: 12
+  pub P3 : CodeTakes (pos 63) 9 × CodeTakes (pos 64) 12
+  -- d = -64: 110 111000000; -256: 16 bits; -2048: 36
+  pub P4 : CodeIs (negℤ (pos 64)) (1 ∷ 1 ∷ 0 ∷ 1 ∷ 1 ∷ 1 ∷ 0 ∷ 0 ∷ 0 ∷ 0 ∷ 0 ∷ 0 ∷ []) × CodeTakes (negℤ (pos 256)) 16 × CodeTakes (negℤ (pos 2048)) 36
+  -- the reader accepts longer codes than the writer makes (0 in 9 bits), and -64 in 7 bits
+  pub accepted : ReadAs (1 ∷ 1 ∷ 0 ∷ replicate 9 0) (pos 0) × ReadAs (1 ∷ 0 ∷ 1 ∷ replicate 6 0) (negℤ (pos 64))
+  -- (100,0),(164,60): 01 02000000 00000002 0000000000000064 C400 00000002 0000000000000000 9E00
+  pub P5 : WritesImage (pair 100 0 ∷ pair 164 60 ∷ []) (fifth 0x00 0x00)
+  -- the listing of P5
+  pub listing : Prints (fifth 0x00 0x00) "entries 2\n0 100 0\n1 164 60\n"
+  -- padding values are ignored
+  pub padding : DecodesTo 3 (fifth 0x0F 0x7F) (pair 100 0 ∷ pair 164 60 ∷ [])
+  -- sequences 0, 1, seconds 0, 2147483648: strict 20, seconds (array 1), index 1; 2147483647 is written (36 bytes)
+  pub P6 : StrictTells (pair 0 0 ∷ pair 1 2147483648 ∷ []) (refused (20 ∷ 1 ∷ 1 ∷ [])) × StrictTells (pair 0 0 ∷ pair 1 2147483647 ∷ []) (gave 36)
+  -- sequences 0, 18446744073709551615, seconds 0, 0: d = -1, 9 bits, written strictly (32 bytes)
+  pub P7 : DifferenceIs 0 18446744073709551615 (negℤ (pos 1)) × CodeTakes (negℤ (pos 1)) 9 × StrictTells (pair 0 0 ∷ pair 18446744073709551615 0 ∷ []) (gave 32)
+  -- capacity 4, interval 0, (1,10),(2,20),(3,30),(4,40),(5,50): (1,10),(3,30),(5,50)
+  pub P8 : Keeps (offeredAll 4 0 (firstOf 5)) (pair 1 10 ∷ pair 3 30 ∷ pair 5 50 ∷ []) 50
+  -- capacity 3, first four: (1,10),(3,30), last recorded 40; then (3,45) is recorded and (9,39), offered instead, skipped
+  pub P9 :
+      Keeps (offeredAll 3 0 (firstOf 4)) (pair 1 10 ∷ pair 3 30 ∷ []) 40
+      × Keeps (offeredAll 3 0 (firstOf 4 ++ (pair 3 45 ∷ []))) (pair 1 10 ∷ pair 3 30 ∷ pair 3 45 ∷ []) 45
+      × Skips (offeredAll 3 0 (firstOf 4)) (pair 9 39)
+  -- capacity 0, first two: (1,10), last recorded 20
+  pub P10 : Keeps (offeredAll 0 0 (firstOf 2)) (pair 1 10 ∷ []) 20
+  -- interval 60 after 100: 159 and 99 skipped, 160 recorded
+  pub P11 :
+      Skips (offeredAll 8192 60 (pair 1 100 ∷ [])) (pair 2 159)
+      × Skips (offeredAll 8192 60 (pair 1 100 ∷ [])) (pair 2 99)
+      × Keeps (offeredAll 8192 60 (pair 1 100 ∷ pair 2 160 ∷ [])) (pair 1 100 ∷ pair 2 160 ∷ []) 160
+  -- offered in order up to the first refusal: (4,160) after (5,100), recorded, and (6,159), skipped, is refused with 17 at position 2
+  pub log :
+      LogTells (offeredAll 4 60 []) (pair 5 100 ∷ pair 6 159 ∷ pair 4 160 ∷ pair 6 170 ∷ [])
+      (gave (stopped (17 ∷ 2 ∷ []) (freshTable 4 60 1 (At (second 100))) (record { recorded = 1; skipped = 1 })))
+  -- in P8's table sequence 2: up 30, down 10; 6 up and 0 down: nothing
+  pub P12 :
+      Finds (offeredAll 4 0 (firstOf 5)) 2 RoundUp (partner (second 30))
+      × Finds (offeredAll 4 0 (firstOf 5)) 2 RoundDown (partner (second 10))
+      × Finds (offeredAll 4 0 (firstOf 5)) 6 RoundUp nothing
+      × Finds (offeredAll 4 0 (firstOf 5)) 0 RoundDown nothing
+  -- run only, in the sequences (array 0): count 2, the first value, then byte 80 gives 8 with width 7; no byte gives 6; count 9 and byte 01 gives 7 at index 8. Input 02 prints `refused 2`
+  pub runOnly :
+      DecodeTells 9 (begun 2 ++ replicate 8 0 ++ (0x80 ∷ [])) (refused (8 ∷ 0 ∷ 1 ∷ 7 ∷ []))
+      × DecodeTells 9 (begun 2 ++ replicate 8 0) (refused (6 ∷ 0 ∷ 1 ∷ []))
+      × DecodeTells 9 (begun 9 ++ replicate 8 0 ++ (0x01 ∷ [])) (refused (7 ∷ 0 ∷ 8 ∷ []))
+      × Prints (0x02 ∷ []) "refused 2\n"
+  -- per array 4, 10, 5: a count of 2 for two arrays of one place, with no first value after it, gives 10; with two places, 5
+  pub order : DecodeTells 1 (begun 2) (refused (10 ∷ 0 ∷ [])) × DecodeTells 2 (begun 2) (refused (5 ∷ 0 ∷ []))

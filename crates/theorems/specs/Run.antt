@@ -11,45 +11,28 @@ use Rattle.gorilla.specs.Format.{imageBytes}
 use Rattle.gorilla.specs.Parser.{Read, read}
 use Rattle.gorilla.specs.Reading.{Pairs}
 use Rattle.fresh.specs.Fresh.{newTable}
-use Rattle.tracker.specs.Table.{kept, checkOf}
+use Rattle.tracker.specs.Table.{kept}
 use Rattle.tracker.specs.declared.Seq.{Seq}
 use Rattle.tracker.specs.declared.Second.{Second}
+use Rattle.tracker.specs.declared.TrackedSeq.{TrackedSeq}
 use Rattle.tracker.specs.declared.SequenceTracker.{SequenceTracker}
 use Rattle.lookup.specs.Find.{findTs, findSeq}
 use Rattle.lookup.specs.declared.FindOption.{FindOption}
-use Rattle.offers.specs.Offer.{Outcome, offerOf, after, stateAfter}
-use Rattle.encoder.specs.Encode.{encodeRule, encodedIn}
+use Rattle.offers.specs.Whole.{Table, whole, checkIn, Left}
+use Rattle.offers.specs.Offer.{Outcome, offerTo, offeredTo}
+use Rattle.log.specs.Log.{Log, done, stopped, logOf}
+use Rattle.log.specs.Pairs.{pairsLogOf, extendOf}
 use Rattle.decoder.specs.Decode.{listed}
-use Rattle.saving.specs.Save.{saveStrictOf, savedIn}
+use Rattle.saving.specs.Save.{saveStrictOf, saveOf, savedIn}
 use Rattle.restoring.specs.Restore.{restoreOf, seqsAfter, secsAfter}
-
--- a table: its state and its two lent arrays, whole
-pub record Table : Type 0 where
-  pub state : SequenceTracker
-  pub seqs : List ℕ
-  pub secs : List ℤ
 
 -- as `new` makes it, in two arrays that hold what they hold
 abbrev pub new : List ℕ → List ℤ → Table
-new seqs secs = record { state = newTable; seqs = seqs; secs = secs }
+new seqs secs = whole newTable seqs secs
 
 -- the pairs that a table keeps
 abbrev pub keptIn : Table → Pairs
 keptIn w = record { seqs = kept (w .state) (w .seqs); secs = kept (w .state) (w .secs) }
-
--- ---- an offer
-
--- what `offer` tells
-abbrev pub offerTo : Table → Seq → Second → Told Outcome
-offerTo w seq ts = offerOf (w .state) (w .seqs) (w .secs) seq ts
-
--- the table after an offer that tells this; skipped or refused, it is as it was
-abbrev pub offeredTo : Table → Seq → Second → Told Outcome → Table
-offeredTo w seq ts told = record {
-  state = stateAfter told (w .state);
-  seqs = after told (w .state) (w .seqs) (seq .0);
-  secs = after told (w .state) (w .secs) (ts .0);
-}
 
 -- ---- a strict save, and a restore of what it wrote
 
@@ -60,41 +43,36 @@ pub record Reload : Type 0 where
   pub seqs : List ℕ
   pub secs : List ℤ
 
+-- what `save_strict` tells, and what `save`, which is the Rust's, tells
+abbrev pub strictTo : Table → List ℕ → Told ℕ
+strictTo w out = saveStrictOf (w .state) (w .seqs) (w .secs) (length out)
+
+abbrev pub saveTo : Table → List ℕ → Told ℕ
+saveTo w out = saveOf (w .state) (w .seqs) (w .secs) (length out)
+
+-- the buffer after a save that tells this
+abbrev pub savedTo : Table → Told ℕ → List ℕ → List ℕ
+savedTo w told out = savedIn (w .state) (w .seqs) (w .secs) told out
+
 -- the bytes written to a buffer: as many as are told
 abbrev pub written : Told ℕ → List ℕ → List ℕ
 written (gave n) out = take n out
 written (refused what) out = []
 
--- what `save_strict` tells
-abbrev pub saveTo : Table → List ℕ → Told ℕ
-saveTo w out = saveStrictOf (w .state) (w .seqs) (w .secs) (length out)
+-- the bytes that such a save writes, and others after them
+abbrev pub stored : (Table → List ℕ → Told ℕ) → Table → Reload → List ℕ
+stored save w l = written (save w (l .out)) (savedTo w (save w (l .out)) (l .out)) ++ l .following
 
--- the buffer after it
-abbrev pub savedTo : Table → List ℕ → List ℕ
-savedTo w out = savedIn (w .state) (w .seqs) (w .secs) (saveTo w out) out
-
--- the bytes that restore is given: those that the save wrote, and others after them
-abbrev pub stored : Table → Reload → List ℕ
-stored w l = written (saveTo w (l .out)) (savedTo w (l .out)) ++ l .following
-
--- what `restore` tells of them
+-- what `restore` tells of what a strict save wrote
 abbrev pub restoreTo : Table → Reload → Told SequenceTracker
-restoreTo w l = restoreOf (stored w l) (l .seqs) (l .secs)
+restoreTo w l = restoreOf (stored strictTo w l) (l .seqs) (l .secs)
 
--- a refused restore leaves no table: one without room, on which each call is refused with 14
-abbrev pub lost : Table
-lost = new [] []
-
--- the table after a restore that tells this
+-- the table after a restore that tells this; a refused one leaves none, and a new one is begun
 abbrev pub restoredTo : Table → Reload → Told SequenceTracker → Table
-restoredTo w l (gave t) = record {
-  state = t;
-  seqs = seqsAfter (stored w l) (gave t) (l .seqs);
-  secs = secsAfter (stored w l) (gave t) (l .secs);
-}
-restoredTo w l (refused what) = lost
+restoredTo w l (gave t) = whole t (seqsAfter (stored strictTo w l) (gave t) (l .seqs)) (secsAfter (stored strictTo w l) (gave t) (l .secs))
+restoredTo w l (refused what) = new (l .seqs) (l .secs)
 
--- the table after a save that tells this, and a restore; a refused save leaves the table standing
+-- the table after a strict save that tells this, and a restore; a refused save leaves the table standing
 abbrev pub reloadedTo : Table → Reload → Told ℕ → Table
 reloadedTo w l (gave n) = restoredTo w l (restoreTo w l)
 reloadedTo w l (refused what) = w
@@ -108,7 +86,7 @@ pub data Event : Type 0 where
 -- the table after an event
 unfoldable pub step : Table → Event → Table
 step w (offered seq ts) = offeredTo w seq ts (offerTo w seq ts)
-step w (reloaded l) = reloadedTo w l (saveTo w (l .out))
+step w (reloaded l) = reloadedTo w l (strictTo w (l .out))
 
 -- the table after the events
 unfoldable pub ranTo : Table → List Event → Table
@@ -137,9 +115,27 @@ Proper [] = Unit {0}
 Proper (offered seq ts ∷ es) = (seq .0 < 2 ^ 64) × Proper es
 Proper (reloaded l ∷ es) = Lent (l .seqs) (l .secs) × Proper es
 
+-- ---- a list of offers
+
+-- the table after a list of offers that left this; refused before the first record, the state is as it was
+abbrev pub stateIn : Told Log → SequenceTracker → SequenceTracker
+stateIn (gave (done t n)) state = t
+stateIn (gave (stopped what t n)) state = t
+stateIn (refused what) state = state
+
+abbrev pub loggedTo : Table → Left (Told Log) → Table
+loggedTo w l = whole (stateIn (l .answer) (w .state)) (l .seqs) (l .secs)
+
+-- two tables are told the same, and keep the same pairs afterwards
+abbrev pub SameLog : Table → Left (Told Log) → Table → Left (Told Log) → Type 0
+SameLog w l v m = (l .answer ≡ m .answer) × (keptIn (loggedTo w l) ≡ keptIn (loggedTo v m))
+
 -- ---- when a strict save is refused
 
--- refused with this number
+-- refused, with any number; and with this one
+abbrev pub Refused : Told ℕ → Type 0
+Refused told = (what : List ℕ) × (told ≡ refused what)
+
 abbrev pub RefusedWith : ℕ → Told ℕ → Type 0
 RefusedWith number told = (more : List ℕ) × (told ≡ refused (number ∷ more))
 
@@ -147,13 +143,9 @@ RefusedWith number told = (more : List ℕ) × (told ≡ refused (number ∷ mor
 abbrev pub imageFor : Table → List ℕ
 imageFor w = imageBytes (keptIn w .seqs) (keptIn w .secs)
 
--- what `encode`, which is the Rust's, tells of the kept pairs and a buffer
-abbrev pub encodeTo : Table → List ℕ → Told ℕ
-encodeTo w out = encodeRule (keptIn w .seqs) (keptIn w .secs) (length out)
-
--- what the list reader reads of the bytes that `encode` writes to the buffer, with others after them
+-- what the list reader reads of what the Rust's save wrote
 abbrev pub readBack : Table → Reload → Read Pairs
-readBack w l = listed (written (encodeTo w (l .out)) (encodedIn (keptIn w .seqs) (keptIn w .secs) (encodeTo w (l .out)) (l .out)) ++ l .following) (l .seqs) (l .secs)
+readBack w l = listed (stored saveTo w l) (l .seqs) (l .secs)
 
 -- other pairs than those that the table keeps
 abbrev pub ReadsOthers : Table → Reload → Type 0
@@ -164,24 +156,30 @@ ReadsOthers w l = (p : Pairs) × (readBack w l ≡ read p (bitsOf (l .following)
 -- what is claimed of the table w that a run leads to, beside the table v that the offers alone lead to
 pub record Unharmed (w v : Table) : Type 0 where
   -- the table is good
-  pub good : checkOf (w .state) (w .seqs) (w .secs) ≡ gave tt
+  pub good : checkIn w ≡ gave tt
   -- the kept pairs, and the state, with the last recorded second in it
   pub pairs : keptIn w ≡ keptIn v
   pub state : w .state ≡ v .state
+  -- each list of offers, as records and as two lists; each other table's pairs, and each other table that takes the pairs of this one
+  pub by-log : (rs : List TrackedSeq) → SameLog w (logOf w rs) v (logOf v rs)
+  pub by-pairs : (qs : List ℕ) (ss : List ℤ) → SameLog w (pairsLogOf w qs ss) v (pairsLogOf v qs ss)
+  pub by-other : (other : Table) → SameLog w (extendOf w other) v (extendOf v other)
+  pub as-other : (other : Table) → extendOf other w ≡ extendOf other v
   -- each lookup
   pub by-seq : (x : Seq) (opt : FindOption) → findTs (w .state) (w .seqs) (w .secs) x opt ≡ findTs (v .state) (v .seqs) (v .secs) x opt
   pub by-second : (x : Second) (opt : FindOption) → findSeq (w .state) (w .seqs) (w .secs) x opt ≡ findSeq (v .state) (v .seqs) (v .secs) x opt
-  -- each strict save, and the buffer after it
-  pub by-save : (out : List ℕ) → (saveTo w out ≡ saveTo v out) × (savedTo w out ≡ savedTo v out)
+  -- each save, strict or not, and the buffer after it
+  pub by-strict : (out : List ℕ) → (strictTo w out ≡ strictTo v out) × (savedTo w (strictTo w out) out ≡ savedTo v (strictTo v out) out)
+  pub by-save : (out : List ℕ) → (saveTo w out ≡ saveTo v out) × (savedTo w (saveTo w out) out ≡ savedTo v (saveTo v out) out)
   -- restore never refuses what a strict save wrote: it gives back the state and the pairs
-  pub restores : (l : Reload) (n : ℕ) → Lent (l .seqs) (l .secs) → saveTo w (l .out) ≡ gave n
+  pub restores : (l : Reload) (n : ℕ) → Lent (l .seqs) (l .secs) → strictTo w (l .out) ≡ gave n
       → (restoreTo w l ≡ gave (w .state)) × (keptIn (restoredTo w l (restoreTo w l)) ≡ keptIn w)
-  -- with room for the image a strict save is refused with 20 exactly where the bytes that `encode` writes read back as other pairs
-  pub refuses : (l : Reload) → length (imageFor w) ≤ length (l .out) → Lent (l .seqs) (l .secs)
-      → RefusedWith 20 (saveTo w (l .out)) ↔ ReadsOthers w l
-  -- and it writes the image exactly where they read back as the kept ones
-  pub writes : (l : Reload) → length (imageFor w) ≤ length (l .out) → Lent (l .seqs) (l .secs)
-      → (saveTo w (l .out) ≡ gave (length (imageFor w))) ↔ (readBack w l ≡ read (keptIn w) (bitsOf (l .following)))
+  -- with room for the image a strict save is refused at all exactly where what the Rust's save wrote reads back as other pairs, and then
+  -- with 20; and it writes the image exactly where that reads back as the kept ones
+  pub exact : (l : Reload) → length (imageFor w) ≤ length (l .out) → Lent (l .seqs) (l .secs)
+      → (Refused (strictTo w (l .out)) ↔ ReadsOthers w l)
+      × (Refused (strictTo w (l .out)) → RefusedWith 20 (strictTo w (l .out)))
+      × ((strictTo w (l .out) ≡ gave (length (imageFor w))) ↔ (readBack w l ≡ read (keptIn w) (bitsOf (l .following))))
 
 -- from a new table in any two such arrays, by any events: each offer is told what it is told without the saves and restores, and the table is unharmed
 abbrev pub Demand : Type 0

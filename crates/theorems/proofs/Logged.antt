@@ -1,0 +1,58 @@
+-- Two tables that keep the same pairs are told the same of a list of offers, and keep the same pairs afterwards.
+use mathlib.Core.Path.{_≡_, refl, ap, subst}
+use mathlib.Core.Bool.{Bool, true, false, cond}
+use mathlib.Core.List.{List, [], _∷_, _++_}
+use Prim.Native.Nat.{ℕ, _+_}
+use lib.Dec.{eqb}
+use lib.IntN.{ℤ}
+use lib.ListN.{length}
+use Rattle.told.specs.Told.{Told, gave, refused}
+use Rattle.tracker.specs.declared.TrackedSeq.{TrackedSeq}
+use Rattle.tracker.specs.declared.SequenceTracker.{SequenceTracker}
+use Rattle.offers.specs.Whole.{Table, checkIn, Left, leaving}
+use Rattle.offers.specs.Offer.{Outcome}
+use Rattle.log.specs.declared.Tally.{Tally}
+use Rattle.log.specs.Log.{Log, done, stopped, noneYet, counted, tells, afterRecord, unlessRefused, unlessBad, runOf, logOf, ownTable, otherTable}
+use Rattle.log.specs.Pairs.{recordsOf, pairsLogOf, ofTable, extendOf}
+use Rattle.theorems.specs.Run.{keptIn, SameLog}
+use Rattle.theorems.proofs.Sound.{Same, offered-told, offered-same}
+
+pub same-kept : (w v : Table) → Same w v → keptIn w ≡ keptIn v
+same-kept w v M = rw (← M .state) (λ i. record { seqs = M .alike .same-seqs i; secs = M .alike .same-secs i })
+
+run-same : (w₀ v₀ w v : Table) (n : Tally) (i : ℕ) (rs : List TrackedSeq) → Same w v → SameLog w₀ (runOf w n i rs) v₀ (runOf v n i rs)
+unfolding runOf
+run-same w₀ v₀ w v n i [] M = (ap (λ (s : SequenceTracker). gave (done s n)) (M .state), same-kept w v M)
+run-same w₀ v₀ w v n i (r ∷ rs) M =
+    let e = offered-told w v M (r .seq) (r .ts) in
+    let more = run-same w₀ v₀ (afterRecord w r) (afterRecord v r) (counted (tells w r) n) (i + 1) rs (offered-same w v M (r .seq) (r .ts)) in
+    subst (λ (o : Told Outcome). SameLog w₀ (unlessRefused (tells w r) i w n (runOf (afterRecord w r) (counted (tells w r) n) (i + 1) rs)) v₀ (unlessRefused o i v n (runOf (afterRecord v r) (counted o n) (i + 1) rs))) e
+    (go (tells w r) (runOf (afterRecord w r) (counted (tells w r) n) (i + 1) rs) (runOf (afterRecord v r) (counted (tells w r) n) (i + 1) rs) more)
+  where
+    go : (o : Told Outcome) (l m : Left (Told Log)) → SameLog w₀ l v₀ m → SameLog w₀ (unlessRefused o i w n l) v₀ (unlessRefused o i v n m)
+    go (gave x) l m h = h
+    go (refused what) l m h = (ap (λ (s : SequenceTracker). gave (stopped (what ++ (i ∷ [])) s n)) (M .state), same-kept w v M)
+
+module _ (w v : Table) (g : checkIn w ≡ gave tt) (g′ : checkIn v ≡ gave tt) (M : Same w v) where
+  pub log-same : (rs : List TrackedSeq) → SameLog w (logOf w rs) v (logOf v rs)
+  log-same rs = rw (g, g′) (run-same w v w v noneYet 0 rs M)
+
+  pub pairs-same : (qs : List ℕ) (ss : List ℤ) → SameLog w (pairsLogOf w qs ss) v (pairsLogOf v qs ss)
+  pairs-same qs ss = go (eqb (length qs) (length ss))
+    where
+      go : (b : Bool) → SameLog w (cond b (logOf w (recordsOf qs ss)) (leaving (refused (18 ∷ [])) w)) v (cond b (logOf v (recordsOf qs ss)) (leaving (refused (18 ∷ [])) v))
+      go true = log-same (recordsOf qs ss)
+      go false = (refl, same-kept w v M)
+
+  pub extend-same : (other : Table) → SameLog w (extendOf w other) v (extendOf v other)
+  extend-same other = rw (g, g′) (go (ofTable otherTable (checkIn other)))
+    where
+      rs : List TrackedSeq
+      rs = recordsOf (keptIn other .seqs) (keptIn other .secs)
+
+      go : (o : Told (Unit {0})) → SameLog w (unlessBad o w (runOf w noneYet 0 rs)) v (unlessBad o v (runOf v noneYet 0 rs))
+      go (gave x) = run-same w v w v noneYet 0 rs M
+      go (refused what) = (refl, same-kept w v M)
+
+  pub extend-by-same : (other : Table) → extendOf other w ≡ extendOf other v
+  extend-by-same other = rw (g, g′, ap (λ p. p .seqs) (same-kept w v M), ap (λ p. p .secs) (same-kept w v M))
