@@ -13,7 +13,7 @@ use mir.Syntax.{w64}
 use mir.Val.{Fits, SFits, toZ, ofZ}
 use mir.Facts.{toZ-ofZ}
 use borrow.Rule.Slice.PartMut.{midOf}
-use Rattle.bits.specs.Over.{over}
+use Rattle.told.specs.Over.{over}
 use Rattle.libc.specs.Io.{Moved}
 use Rattle.listing_io.specs.Run.{Within}
 use Rattle.listing_io.specs.declared.Ran.{Ran}

@@ -2,7 +2,7 @@
 use Prim.Native.Nat.{ℕ, _≤_}
 use mathlib.Core.List.{List}
 use lib.ListN.{take}
-use Rattle.bits.specs.Over.{over}
+use Rattle.told.specs.Over.{over}
 use Rattle.report.specs.Listing.{listingOf}
 use Rattle.listing_io.specs.declared.Ran.{Ran}
 use Rattle.listing_io.specs.declared.Ran.the-variants.{Listed, Unread}

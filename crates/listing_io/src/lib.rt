@@ -3,7 +3,7 @@
 ghost use mathlib.Core.Path.{_≡_};
 ghost use Prim.Native.Nat.{_≤_};
 ghost use lib.ListN.{length, take};
-ghost use Rattle.bits.specs.Over.{over};
+ghost use Rattle.told.specs.Over.{over};
 ghost use Rattle.report.specs.Listing.{listingOf};
 ghost use Rattle.listing_io.specs.Run.{Within, textAfter};
 
