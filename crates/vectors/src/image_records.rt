@@ -4,8 +4,8 @@ use crate::body::part;
 use crate::body::u8_at;
 use crate::body::u16_at;
 use crate::lists::values_so;
+use crate::outcome;
 use crate::tally;
-use crate::told;
 
 // The number at a place of the answer that follows the image, where the Rust read it.
 fn after_image(b: &[u8], number: usize, at: usize) -> usize {
@@ -31,7 +31,7 @@ fn length_so(b: &[u8], bytes: &[u8], size: usize) -> bool {
     if decoder::rest(bytes).len() != left_over(size, number, taken) {
         return false;
     }
-    told::is_so(told::measured(bytes), number, u8_at(b, 1), taken)
+    outcome::is_so(outcome::measured(bytes), number, u8_at(b, 1), taken)
 }
 
 fn decoding_so(b: &[u8], bytes: &[u8], size: usize) -> bool {
@@ -39,8 +39,8 @@ fn decoding_so(b: &[u8], bytes: &[u8], size: usize) -> bool {
     let mut secs = [0i64; 8192];
     let number = u8_at(b, 0);
     let n = after_image(b, number, after(size, 7));
-    let got = told::decoded(bytes, &mut seqs, &mut secs);
-    if !told::is_so(got, number, u8_at(b, 1), n) {
+    let got = outcome::decoded(bytes, &mut seqs, &mut secs);
+    if !outcome::is_so(got, number, u8_at(b, 1), n) {
         return false;
     }
     values_so(b, after(size, 9), n, &seqs, &secs)
@@ -50,7 +50,7 @@ fn decoding_so(b: &[u8], bytes: &[u8], size: usize) -> bool {
 fn too_many_so(bytes: &[u8], array: usize) -> bool {
     let mut seqs = [0u64; 8192];
     let mut secs = [0i64; 8192];
-    told::is_so(told::decoded(bytes, &mut seqs, &mut secs), 10, array, 0)
+    outcome::is_so(outcome::decoded(bytes, &mut seqs, &mut secs), 10, array, 0)
 }
 
 pub fn image(b: &[u8], tally: &mut [u64; tally::PLACES]) {

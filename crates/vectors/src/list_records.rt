@@ -6,8 +6,8 @@ use crate::body::u32_at;
 use crate::body::u64_at;
 use crate::digest;
 use crate::lists;
+use crate::outcome;
 use crate::tally;
-use crate::told;
 use encoder::Encoded;
 use encoder::EncodedLen;
 use encoder::Refusal;
@@ -76,8 +76,8 @@ fn reads_back(b: &[u8], image: &[u8]) -> bool {
     let mut seqs = [0u64; lists::LISTED];
     let mut secs = [0i64; lists::LISTED];
     let n = u8_at(b, 0);
-    let got = told::decoded(image, &mut seqs, &mut secs);
-    if !told::is_so(got, 0, 0, n) {
+    let got = outcome::decoded(image, &mut seqs, &mut secs);
+    if !outcome::is_so(got, 0, 0, n) {
         return false;
     }
     lists::values_so(b, 2, n, &seqs, &secs)
@@ -117,8 +117,8 @@ fn image_so(b: &[u8], image: &[u8]) -> bool {
 fn read_back_so(b: &[u8], image: &[u8], n: usize) -> bool {
     let mut seqs = [0u64; 8192];
     let mut secs = [0i64; 8192];
-    let got = told::decoded(image, &mut seqs, &mut secs);
-    if !told::is_so(got, 0, 0, n) {
+    let got = outcome::decoded(image, &mut seqs, &mut secs);
+    if !outcome::is_so(got, 0, 0, n) {
         return false;
     }
     if digest::of_seqs(&seqs, n) != u64_at(b, 73) {

@@ -9,7 +9,7 @@ mod records; // records.rt: one record after the other
 mod sizes; // sizes.rt: the bodies that each kind may have
 mod table_records; // table_records.rt: what changes the standing table
 mod tally; // tally.rt: how many answers agreed
-mod told; // told.rt: refusals as numbers
+mod outcome; // outcome.rt: refusals as numbers
 mod view_records; // view_records.rt: what looks at the standing table
 
 fn main() {

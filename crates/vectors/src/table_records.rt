@@ -6,7 +6,7 @@ use crate::body::u16_at;
 use crate::body::u32_at;
 use crate::body::u64_at;
 use crate::lists;
-use crate::told;
+use crate::outcome;
 use log::Extended;
 use log::Logged;
 use offers::Offered;
@@ -222,7 +222,7 @@ fn table_so(b: &[u8], table: SequenceTracker) -> Changed {
 
 // A restore that the list reader refuses: the table stays, with its settings.
 fn refusal_so(b: &[u8], table: SequenceTracker, why: decoder::Refusal) -> Changed {
-    let agreed = told::is_so(told::refused(why), u8_at(b, 0), u8_at(b, 1), 0);
+    let agreed = outcome::is_so(outcome::refused(why), u8_at(b, 0), u8_at(b, 1), 0);
     leaves(table, agreed & settings_so(b, table))
 }
 

@@ -1,10 +1,10 @@
 use borrow.Author.Needs.{needs}
 use native.Mathlib.Omega.{arith}
 use Prim.Native.Nat.{_-_}
-use Rattle.report.proofs.Putting.{then, put-length}
-use Rattle.report.proofs.Numbers.{decimal-length}
-use Rattle.report.proofs.text.put_word_line.Statement.{statement}
-use Rattle.report.proofs.text.put_word_line.Tie as tie
+use Rattle.text.proofs.Putting.{then, put-length}
+use Rattle.text.proofs.Numbers.{decimal-length}
+use Rattle.text.proofs.inner.put_word_line.Statement.{statement}
+use Rattle.text.proofs.inner.put_word_line.Tie as tie
 
 put-bytes-requires : tie.Need-put-bytes-requires
 put-bytes-requires c κs = search needs

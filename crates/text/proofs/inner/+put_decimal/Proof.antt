@@ -3,16 +3,16 @@ use native.Mathlib.Omega.{arith}
 use mathlib.Core.Path.{ap}
 use lib.ListN.{length, length-append}
 use Prim.Native.Nat.{ℕ, _<_}
-use Rattle.report.proofs.Putting.{then, put-length}
-use Rattle.report.proofs.Numbers.{decimal-small, decimal-large, decimal-length}
+use Rattle.text.proofs.Putting.{then, put-length}
+use Rattle.text.proofs.Numbers.{decimal-small, decimal-large, decimal-length}
 use borrow.Fn.Kinds.{In}
 use borrow.Fn.PlainCycle.{Measures, is, falls, and}
-use Rattle.report.proofs.text.put_decimal.Reads as put-decimal
-use Rattle.report.proofs.text.put_decimal.Kinds as put-decimal-kinds
-use Rattle.report.proofs.text.+put_decimal.Lts-put_decimal as put-decimal-lts
-use Rattle.report.proofs.text.put_byte.Reads as put-byte-reads
-use Rattle.report.proofs.text.+put_decimal.{statement}
-use Rattle.report.proofs.text.+put_decimal.Tie.{close}
+use Rattle.text.proofs.inner.put_decimal.Reads as put-decimal
+use Rattle.text.proofs.inner.put_decimal.Kinds as put-decimal-kinds
+use Rattle.text.proofs.inner.+put_decimal.Lts-put_decimal as put-decimal-lts
+use Rattle.text.proofs.inner.put_byte.Reads as put-byte-reads
+use Rattle.text.proofs.inner.+put_decimal.{statement}
+use Rattle.text.proofs.inner.+put_decimal.Tie.{close}
 
 abbrev μ-put-decimal : Measures 1 put-decimal-kinds.ps ℕ
 μ-put-decimal κs a = a .1 .1 .0

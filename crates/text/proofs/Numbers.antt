@@ -14,8 +14,7 @@ use mir.Syntax.{w64}
 use mir.Val.{Fits, SFits, toZ, ofZ}
 use mir.Facts.{toZ-pos}
 use lib.ListN.{length, getD, length-append}
-use Rattle.report.specs.Put.{Put}
-use Rattle.report.specs.Text.{digits, decimal, signedDecimal, line, lines, wordLine}
+use Rattle.text.specs.Text.{digits, decimal, signedDecimal, wordLine}
 
 pub small : (k n : ℕ) → n < 10 → digits (suc k) n ≡ (48 + n) ∷ []
 unfolding digits
@@ -74,44 +73,23 @@ unfolding signedDecimal
 signed-length (pos n) = omega (arith, decimal-length n)
 signed-length (negsuc n) = omega (arith, decimal-length (suc n))
 
--- ---- signs
-pub upper : (z : ℤ) → SFits w64 z → ltZ z (pos 0) ≡ true → (2 ^ 63 ≤ ofZ w64 z) × (ofZ w64 z < 2 ^ 64) × (natAbs z ≡ 2 ^ 64 - ofZ w64 z)
-upper (pos n) f e = absurd (omega (arith, ltb-true))
-upper (negsuc n) f e = omega (arith, f .sfits)
+-- ---- signs: the bits of a negative number are those of 2^64 less its magnitude
+bits-of : (z : ℤ) → SFits w64 z → ltZ z (pos 0) ≡ true → (2 ^ 63 ≤ ofZ w64 z) × (18446744073709551615 - ofZ w64 z + 1 ≡ natAbs z)
+bits-of (pos n) f e = absurd (omega (arith, ltb-true))
+bits-of (negsuc n) f e = (omega (arith, f .sfits), omega (arith, f .sfits))
 
-pub flip : (n : ℕ) → 2 ^ 63 ≤ n → n < 2 ^ 64 → toZ w64 (18446744073709551615 - n) ≡ pos (18446744073709551615 - n)
-flip n l h = toZ-pos w64 (omega arith)
+pub upper : (z : ℤ) → SFits w64 z → ltZ z (pos 0) ≡ true → 2 ^ 63 ≤ ofZ w64 z
+upper z f e = (bits-of z f e) .0
 
-pub negative : (z : ℤ) → ltZ z (pos 0) ≡ true → signedDecimal z ≡ (45 ∷ []) ++ decimal (natAbs z)
+pub negative : (z : ℤ) → SFits w64 z → ltZ z (pos 0) ≡ true → signedDecimal z ≡ (45 ∷ []) ++ decimal (18446744073709551615 - ofZ w64 z + 1)
 unfolding signedDecimal
-negative (pos n) e = absurd (omega (arith, ltb-true))
-negative (negsuc n) e = refl
+negative (pos n) f e = absurd (omega (arith, ltb-true))
+negative (negsuc n) f e = rw ((bits-of (negsuc n) f e) .1)
 
-pub positive : (z : ℤ) → ltZ z (pos 0) ≡ false → signedDecimal z ≡ decimal (natAbs z)
+pub positive : (z : ℤ) → ltZ z (pos 0) ≡ false → signedDecimal z ≡ decimal (ofZ w64 z)
 unfolding signedDecimal
 positive (pos n) e = refl
 positive (negsuc n) e = absurd (subst T e tt)
-
-pub at-least-0 : (z : ℤ) → SFits w64 z → ltZ z (pos 0) ≡ false → T (nonNeg z) × Fits w64 (natAbs z)
-at-least-0 (pos n) f e = (tt, record { fits = omega (arith, f .sfits) })
-at-least-0 (negsuc n) f e = absurd (subst T e tt)
-
-pub line-length : (i q : ℕ) (s : ℤ) → length (line i q s) ≤ 64
-unfolding line
-line-length i q s = simp length-append (omega (arith, decimal-length i, decimal-length q, signed-length s))
-
-pub lines-more : (qs : List ℕ) (ss : List ℤ) (n : ℕ) → lines qs ss (n + 1) ≡ lines qs ss n ++ line n (getD qs n 0) (getD ss n (pos 0))
-unfolding lines
-lines-more qs ss n = rw (add-one n)
-
-pub lines-length : (qs : List ℕ) (ss : List ℤ) (n : ℕ) → length (lines qs ss n) ≤ n * 64
-unfolding lines
-lines-length qs ss zero = omega arith
-lines-length qs ss (suc n) = omega (arith, lines-length qs ss n, line-length n (getD qs n 0) (getD ss n (pos 0)), length-append (lines qs ss n) (line n (getD qs n 0) (getD ss n (pos 0))))
-
-pub none : (qs : List ℕ) (ss : List ℤ) (l : List ℕ) (at : ℕ) → Put l at (lines qs ss 0) l at
-unfolding lines
-none qs ss l at = record { bytes = refl; ends = omega arith }
 
 -- a line of a word and a number
 pub word-length : (word : List ℕ) (n : ℕ) → length (wordLine word n) ≤ length word + 21

@@ -3,10 +3,10 @@ use native.Mathlib.Omega.{arith}
 use Prim.Native.Nat.{_+_, _-_, _≤_}
 use lib.ListN.{length, take}
 use lib.Seq.{take-all}
-use Rattle.report.specs.Put.{Put}
-use Rattle.report.proofs.Putting.{put-length, copied}
-use Rattle.report.proofs.text.put_bytes.Statement.{statement}
-use Rattle.report.proofs.text.put_bytes.Tie as tie
+use Rattle.text.specs.Inner.{Put}
+use Rattle.text.proofs.Putting.{put-length, copied}
+use Rattle.text.proofs.inner.put_bytes.Statement.{statement}
+use Rattle.text.proofs.inner.put_bytes.Tie as tie
 
 abbrev Inv-loop : tie.InvT-loop
 Inv-loop out₀ at s i₀ out i = (i ≤ length s) × Put out₀ at (take i s) out (at + i)

@@ -1,14 +1,11 @@
 // Bytes and numbers as text, put into a lent buffer from a place on. Each function answers the place
 // after its text. What a function requires is room for the longest text that it can make.
-ghost use mathlib.Core.Path.{_≡_};
 ghost use Prim.Native.Nat.{_+_, _≤_, _<_};
 ghost use mathlib.Core.List.{[], _∷_};
-ghost use mathlib.Core.Bool.{true};
 ghost use lib.ListN.{length};
-ghost use lib.IntN.{pos, natAbs};
-ghost use lib.Signed.{ltZ};
-ghost use Rattle.report.specs.Put.{Put};
-ghost use Rattle.report.specs.Text.{decimal, signedDecimal, wordLine};
+ghost use Rattle.text.specs.Inner.{Put};
+ghost use Rattle.text.specs.Text.{decimal, signedDecimal, wordLine};
+use signed::as_unsigned;
 
 pub fn put_byte(out: &mut [u8], at: usize, b: u8) -> usize
     requires { ⌜ at < length (now out) ⌝ }
@@ -42,23 +39,17 @@ pub fn put_decimal(out: &mut [u8], at: usize, n: u64) -> usize
     put_byte(out, p, b'0' + (n % 10) as u8)
 }
 
-// The magnitude of a negative number. `!n` is -n - 1, which no number takes out of range.
-fn magnitude(n: i64) -> u64
-    requires { ⌜ ltZ n (pos 0) ≡ true ⌝ }
-    ensures { λ r. ⌜ r ≡ natAbs n ⌝ }
-{
-    (!n as u64) + 1
-}
-
+// The bits of -m are those of 2^64 - m.
 pub fn put_signed(out: &mut [u8], at: usize, n: i64) -> usize
     requires { ⌜ at + 21 ≤ length (now out) ⌝ }
     ensures { λ r. ⌜ Put (now (out .entry)) at (signedDecimal n) (now (out .exit)) r ⌝ }
 {
+    let bits = as_unsigned(n);
     if n < 0 {
         let p = put_byte(out, at, b'-');
-        return put_decimal(out, p, magnitude(n));
+        return put_decimal(out, p, !bits + 1);
     }
-    put_decimal(out, at, n as u64)
+    put_decimal(out, at, bits)
 }
 
 // A line of a word, which ends with its space, and a number.

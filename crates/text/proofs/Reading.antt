@@ -8,8 +8,8 @@ use mathlib.Core.List.{List, [], _∷_, _++_}
 use lib.Dec.{ltb}
 use borrow.Author.Tests.{ltb-true, ltb-false}
 use lib.ListN.{length, getD, length-append, List·getD-append}
-use Rattle.report.specs.Text.{digits, decimal}
-use Rattle.report.proofs.Numbers.{small, large}
+use Rattle.text.specs.Text.{digits, decimal}
+use Rattle.text.proofs.Numbers.{small, large}
 
 -- digits read from the left
 abbrev value : ℕ → List ℕ → ℕ
