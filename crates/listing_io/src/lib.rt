@@ -5,22 +5,35 @@ ghost use Prim.Native.Nat.{_≤_};
 ghost use lib.ListN.{length, take};
 ghost use Rattle.told.specs.Over.{over};
 ghost use Rattle.report.specs.Listing.{listingOf};
-ghost use Rattle.listing_io.specs.Run.{Within, textAfter};
+ghost use Rattle.listing_io.specs.Run.{Ran};
 
-mod input; // input.rt: standard input, to its end
+mod input; // input.rt: standard input, a read at a time
 
-use input::read_input;
+pub use input::Over;
+use input::Read;
+use input::bytes;
+use input::failed;
+use input::read_more;
 use report::TEXT_ROOM;
 
 // One byte more than an image may have, so that too long an input is seen.
 pub const INPUT_ROOM: usize = 16385;
 
-// What became of a run.
-pub enum Ran {
-    // so many bytes were read, and their listing printed
-    Listed(usize),
-    // a read failed: it is reported on standard error, and nothing is printed
-    Unread,
+// Reads until the input ends or `buf` is full. A read that fails is not the end of the input.
+fn read_input(buf: &mut [u8]) -> Over
+    ensures { λ r. ⌜ r .bytes ≤ length (now (buf .exit)) ⌝ }
+{
+    let mut done = 0;
+    loop {
+        match read_more(buf, done) {
+            Read::More(n) => {
+                done = n;
+            }
+            Read::Over(over) => {
+                return over;
+            }
+        }
+    }
 }
 
 // Puts the listing of the first n bytes of `input` into `text`, prints it, and reports a write that fails.
@@ -40,19 +53,15 @@ fn print(text: &[u8], size: usize)
     }
 }
 
-// Reads standard input to its end and prints its listing.
-pub fn run(input: &mut [u8; INPUT_ROOM], text: &mut [u8; TEXT_ROOM]) -> Ran
-    ensures answer { λ r. ⌜ Within r (length (now (input .exit))) ⌝ }
-    ensures text { λ r. ⌜ now (text .exit) ≡ textAfter r (now (input .exit)) (now (text .entry)) ⌝ }
+// Reads standard input to its end and prints its listing. A read that fails is reported on standard error, and nothing is printed.
+pub fn run(input: &mut [u8; INPUT_ROOM], text: &mut [u8; TEXT_ROOM]) -> Over
+    ensures { λ r. ⌜ Ran r (now (input .exit)) (now (text .entry)) (now (text .exit)) ⌝ }
 {
-    match read_input(input) {
-        Ran::Listed(n) => {
-            list(input, n, text);
-            Ran::Listed(n)
-        }
-        Ran::Unread => {
-            os::fail(b"listing: standard input");
-            Ran::Unread
-        }
+    let over = read_input(input);
+    if failed(over) {
+        os::fail(b"listing: standard input");
+        return over;
     }
+    list(input, bytes(over), text);
+    over
 }
