@@ -6,7 +6,7 @@ use mathlib.Core.List.{List}
 use lib.ListN.{length, take}
 use Rattle.told.specs.Over.{over}
 use Rattle.report.specs.Listing.{listingOf}
-use Rattle.listing_io.specs.declared.input.Over.{Over}
+use Rattle.input.specs.declared.once.Over.{Over}
 
 -- no more bytes were read than the buffer has, and the text buffer has their listing; where a read failed, what stood there
 abbrev pub Ran : Over → List ℕ → List ℕ → List ℕ → Type 0

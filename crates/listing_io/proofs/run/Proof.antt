@@ -3,8 +3,8 @@ use Rattle.listing_io.proofs.Laws.{ran}
 use Rattle.listing_io.proofs.run.Statement.{statement}
 use Rattle.listing_io.proofs.run.Tie as tie
 
-read-input-requires : tie.Need-read-input-requires
-read-input-requires c κs = search needs
+read-all-requires : tie.Need-read-all-requires
+read-all-requires c κs = search needs
 
 failed-requires : tie.Need-failed-requires
 failed-requires c κs = search needs
@@ -29,13 +29,13 @@ returns-2 c =
     let by = c .before .before in
     let el = by .before .before .before in
     let ri = el .before .before in
-    ran (ri .read-input .result) _ _ _ (el .before .failed .result) (by .bytes .result) (el .before .failed .ensures) (el .if1 .left) (by .bytes .ensures) (ri .read-input .ensures) (c .list .ensures)
+    ran (ri .read-all .result) _ _ _ (el .before .failed .result) (by .bytes .result) (el .before .failed .ensures) (el .if1 .left) (by .bytes .ensures) (ri .read-all .ensures) (c .list .ensures)
 
 pub run-spec : {M : Type 1} → statement M
 run-spec =
     tie.close
     (tie.spec
-    read-input-requires
+    read-all-requires
     failed-requires
     slice-aggregate-fail
     fail-requires

@@ -1,10 +1,9 @@
-// Standard input, a read at a time. No contract can say which bytes a read brings, or that one was made. What can be said is said of
-// the buffer, of the count, and by `Over`: its fields are this module's own, so that no other code has one but from a read that
-// ended the input or failed.
+// One read of standard input. Only here is an `Over` made, since its fields are this module's own: any other code has one from a
+// read that ended the input or failed.
 ghost use Prim.Native.Nat.{_≤_};
 ghost use mathlib.Core.Path.{_≡_};
 ghost use lib.ListN.{length};
-ghost use Rattle.listing_io.specs.Input.{Counted, afterRead, Reads};
+ghost use Rattle.input.specs.Inner.{Counted, afterRead, Reads};
 
 // Standard input after its last read.
 pub struct Over {

@@ -1,4 +1,4 @@
--- What our own functions promise each other of standard input. No public statement cites this file.
+-- What our own functions promise each other. No public statement cites this file.
 use Prim.Native.Nat.{ℕ, zero, suc, _+_, _-_, _<_, _^_}
 use mathlib.Core.Path.{_≡_}
 use mathlib.Core.Bool.{true, false}
@@ -6,9 +6,9 @@ use mathlib.Core.List.{List}
 use lib.IntN.{ℤ, pos, negsuc}
 use lib.ListN.{length, take}
 use Rattle.libc.specs.Io.{Moved}
-use Rattle.listing_io.specs.declared.input.Over.{Over}
-use Rattle.listing_io.specs.declared.input.Read.{Read}
-use Rattle.listing_io.specs.declared.input.Read.the-variants as r
+use Rattle.input.specs.declared.once.Over.{Over}
+use Rattle.input.specs.declared.once.Read.{Read}
+use Rattle.input.specs.declared.once.Read.the-variants as r
 
 -- where a read answered so many bytes, their number and those before it is one of 64 bits
 abbrev pub Counted : ℕ → ℤ → Type 0

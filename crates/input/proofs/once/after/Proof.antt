@@ -3,9 +3,9 @@ use mathlib.Core.Bool.{false}
 use lib.IntN.{pos}
 use lib.Signed.{ltZ}
 use mir.Facts.{toZ-ofZ}
-use Rattle.listing_io.proofs.Laws.{fails, ends, adds, counts}
-use Rattle.listing_io.proofs.input.after.Statement.{statement}
-use Rattle.listing_io.proofs.input.after.Tie as tie
+use Rattle.input.proofs.Laws.{fails, ends, adds, counts}
+use Rattle.input.proofs.once.after.Statement.{statement}
+use Rattle.input.proofs.once.after.Tie as tie
 
 not-failed : (c : tie.Else1) → ltZ (c .before .args .got) (pos 0) ≡ false
 not-failed c = rw (toZ-ofZ (c .before .fits .got)) at (c .if1 .left)

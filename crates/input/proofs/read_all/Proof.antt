@@ -3,9 +3,9 @@ use Prim.Native.Nat.{_-_, _≤_}
 use mathlib.Core.Path.{_≡_}
 use lib.ListN.{length}
 use borrow.Author.Needs.{needs}
-use Rattle.listing_io.proofs.Laws.{sized, more-sized, over-sized}
-use Rattle.listing_io.proofs.read_input.Statement.{statement}
-use Rattle.listing_io.proofs.read_input.Tie as tie
+use Rattle.input.proofs.Laws.{sized, more-sized, over-sized}
+use Rattle.input.proofs.read_all.Statement.{statement}
+use Rattle.input.proofs.read_all.Tie as tie
 
 abbrev Inv-loop : tie.InvT-loop
 Inv-loop buf₀ done₀ buf done = (done ≤ length buf) × (length buf ≡ length buf₀)
@@ -50,8 +50,8 @@ returns c =
     let h = over-sized (at .done) (c .before .over .given .1) (sized (rm .read-more .ensures) (at .inv .0)) in
     search needs
 
-pub read-input-spec : {M : Type 1} → statement M
-read-input-spec =
+pub read-all-spec : {M : Type 1} → statement M
+read-all-spec =
     tie.close
     (tie.spec
     Inv-loop

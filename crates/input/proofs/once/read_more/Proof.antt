@@ -2,9 +2,9 @@ use Prim.Native.Nat.{_<_}
 use lib.ListN.{length}
 use borrow.Author.Needs.{needs, sfits-of}
 use mir.Facts.{toZ-ofZ}
-use Rattle.listing_io.proofs.Laws.{counted, room-left, stays}
-use Rattle.listing_io.proofs.input.read_more.Statement.{statement}
-use Rattle.listing_io.proofs.input.read_more.Tie as tie
+use Rattle.input.proofs.Laws.{counted, room-left, stays}
+use Rattle.input.proofs.once.read_more.Statement.{statement}
+use Rattle.input.proofs.once.read_more.Tie as tie
 
 sub-read : tie.Need-sub-read
 sub-read c = search needs
