@@ -1,92 +1,64 @@
-// Answers as FORMAT.md writes them: document 01's number and what it also tells.
+// Answers of the reader as FORMAT.md writes them: document 01's number and, 256 times, the byte that it also tells.
+use crate::body::after;
+use crate::body::wide;
+use crate::digest;
+use crate::lists::values_so;
 use decoder::Decoded;
 use decoder::ImageLen;
 use decoder::Refusal;
 use gorilla::Array;
 
-// 0 and a count of pairs or of bytes; or a refusal's number, what it tells, and 0.
-pub struct Told {
-    pub number: usize,
-    pub tells: usize,
-    pub count: usize,
-}
-
-fn array_number(array: Array) -> usize {
+// What 9 and 10 tell of their array.
+fn tells(array: Array) -> usize {
     match array {
         Array::Sequences => 0,
-        Array::Seconds => 1,
+        Array::Seconds => 256,
     }
-}
-
-fn number_of(why: Refusal) -> usize {
-    match why {
-        Refusal::Empty => 1,
-        Refusal::Version(_) => 2,
-        Refusal::Header => 3,
-        Refusal::CountCut(_) => 4,
-        Refusal::TooMany(_) => 10,
-        Refusal::FirstCut(_) => 5,
-        Refusal::CodeEnd(_, _) => 6,
-        Refusal::PrefixCut(_, _) => 7,
-        Refusal::DiffCut(_, _, _) => 8,
-        Refusal::CountDiffers(_) => 9,
-    }
-}
-
-fn wide(x: u8) -> usize {
-    x as usize
 }
 
 // Of the arrays and indices only those that the Rust tells too, and the array of 10.
-fn tells_of(why: Refusal) -> usize {
+pub fn code_of(why: Refusal) -> usize {
     match why {
-        Refusal::Version(byte) => wide(byte),
-        Refusal::TooMany(array) => array_number(array),
-        Refusal::DiffCut(_, _, width) => wide(width),
-        Refusal::CountDiffers(array) => array_number(array),
-        _ => 0,
+        Refusal::Empty => 1,
+        Refusal::Version(byte) => 2 + 256 * wide(byte),
+        Refusal::Header => 3,
+        Refusal::CountCut(_) => 4,
+        Refusal::TooMany(array) => after(10, tells(array)),
+        Refusal::FirstCut(_) => 5,
+        Refusal::CodeEnd(_, _) => 6,
+        Refusal::PrefixCut(_, _) => 7,
+        Refusal::DiffCut(_, _, width) => 8 + 256 * wide(width),
+        Refusal::CountDiffers(array) => after(9, tells(array)),
     }
 }
 
-pub fn refused(why: Refusal) -> Told {
-    Told {
-        number: number_of(why),
-        tells: tells_of(why),
-        count: 0,
-    }
-}
-
-pub fn counted(n: usize) -> Told {
-    Told {
-        number: 0,
-        tells: 0,
-        count: n,
-    }
-}
-
-// The list reader's answer.
-pub fn decoded(bytes: &[u8], seqs: &mut [u64], secs: &mut [i64]) -> Told {
+// Whether the list reader gives a count, which has the code 0, or a refusal of that code.
+fn decoded_so(bytes: &[u8], seqs: &mut [u64], secs: &mut [i64], code: usize, count: usize) -> bool {
     match decoder::decode(bytes, seqs, secs) {
-        Decoded::Count(n) => counted(n),
-        Decoded::Refused(why) => refused(why),
+        Decoded::Count(n) => (code == 0) & (n == count),
+        Decoded::Refused(why) => code_of(why) == code,
     }
 }
 
-// An image's length.
-pub fn measured(bytes: &[u8]) -> Told {
+// The same of an image's length.
+pub fn measured_so(bytes: &[u8], code: usize, count: usize) -> bool {
     match decoder::image_len(bytes) {
-        ImageLen::Bytes(n) => counted(n),
-        ImageLen::Refused(why) => refused(why),
+        ImageLen::Bytes(n) => (code == 0) & (n == count),
+        ImageLen::Refused(why) => code_of(why) == code,
     }
 }
 
-// Whether an answer is the one expected.
-pub fn is_so(told: Told, number: usize, tells: usize, count: usize) -> bool {
-    if told.number != number {
-        return false;
+// Whether the list reader gives a refusal, or the n pairs of a body: listed there from a place on or, where `brief`, known by
+// their digests.
+pub fn read_so(bytes: &[u8], code: usize, n: usize, b: &[u8], at: usize, brief: bool) -> bool {
+    let mut seqs = [0u64; 8192];
+    let mut secs = [0i64; 8192];
+    let agreed = decoded_so(bytes, &mut seqs, &mut secs, code, n);
+    if code != 0 {
+        return agreed;
     }
-    if told.tells != tells {
-        return false;
+    if brief {
+        return agreed & digest::pairs_so(b, at, n, &seqs, &secs);
     }
-    told.count == count
+    agreed & values_so(b, at, n, &seqs, &secs)
 }
