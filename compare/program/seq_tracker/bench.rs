@@ -1,5 +1,6 @@
-//! Work of both sides on the same inputs, between marks that a counter of instructions sees. Every answer is compared with the
-//! Rust's before it is counted. A line `mark N WORK, DATA, PAIRS, SIDE` names each mark.
+//! Work of both sides on the same inputs, between marks that a counter of instructions sees, or timed. Every answer is compared with
+//! the Rust's before it is counted. A line `mark N WORK, DATA, PAIRS, SIDE` names each mark; `time NANOSECONDS WORK, DATA, PAIRS, SIDE` has
+//! the least time of several.
 use super::super::*;
 use super::chance::Chance;
 use super::lent::{self, Lent};
@@ -7,6 +8,7 @@ use super::offers::table_of;
 use super::ours::{self, Table};
 use super::theirs;
 use std::hint::black_box;
+use std::time::{Duration, Instant};
 
 extern "C" {
     fn syscall(number: i64, ...) -> i64;
@@ -19,16 +21,51 @@ fn mark(n: u64) {
     }
 }
 
+/// How often each side is timed, in turn with the other.
+const TIMES: usize = 25;
+
 struct Bench {
     marks: u64,
+    timed: bool,
+}
+
+fn time<A>(work: &mut impl FnMut() -> A) -> Duration {
+    let began = Instant::now();
+    black_box(work());
+    began.elapsed()
 }
 
 impl Bench {
-    /// Both sides twice: the first time to warm up and to be compared, the second time between marks.
+    /// How often `work` calls each side.
+    fn calls(&self) -> usize {
+        1 + if self.timed { TIMES } else { 1 }
+    }
+
+    /// Both sides first to warm up and to be compared, then between marks or against the clock.
     fn work<A: PartialEq + std::fmt::Debug>(&mut self, name: &str, mut theirs: impl FnMut() -> A, mut ours: impl FnMut() -> A) {
         assert_eq!(theirs(), ours(), "{name}");
-        self.count(name, "rust", theirs);
-        self.count(name, "ours", ours);
+        if self.timed {
+            let (mut rust, mut own) = (Duration::MAX, Duration::MAX);
+            for _ in 0..TIMES {
+                rust = rust.min(time(&mut theirs));
+                own = own.min(time(&mut ours));
+            }
+            println!("time {} {name}, rust", rust.as_nanos());
+            println!("time {} {name}, ours", own.as_nanos());
+        } else {
+            self.count(name, "rust", theirs);
+            self.count(name, "ours", ours);
+        }
+    }
+
+    /// One side alone, which was called before.
+    fn alone<A>(&mut self, name: &str, side: &str, mut work: impl FnMut() -> A) {
+        if self.timed {
+            let least = (0..TIMES).map(|_| time(&mut work)).min().expect("several");
+            println!("time {} {name}, {side}", least.as_nanos());
+        } else {
+            self.count(name, side, work);
+        }
     }
 
     fn count<A>(&mut self, name: &str, side: &str, mut work: impl FnMut() -> A) {
@@ -118,7 +155,7 @@ fn lookups(bench: &mut Bench, n: usize) {
     // The check alone, as often: a lookup without it is the search.
     let checks = || (0..1000).map(|_| black_box(&ours).check().number).max();
     assert_eq!(checks(), Some(0));
-    bench.count(&format!("1,000 checks, mixed, {n}"), "ours", checks);
+    bench.alone(&format!("1,000 checks, mixed, {n}"), "ours", checks);
 }
 
 /// 100,000 offers of a second each. The Rust makes a `DateTime` of each second, as in its own `extend_from`, or has them ready.
@@ -127,7 +164,7 @@ fn offers(bench: &mut Bench, interval: u64, ready: bool) {
     let records: Vec<TrackedSeq> = secs.iter().map(|&s| TrackedSeq { seq: s as u64, ts: theirs::instant(s) }).collect();
     let skipped = if interval == 0 { "all recorded" } else { "59 of 60 skipped" };
     let from = if ready { "DateTimes ready" } else { "DateTimes made" };
-    let mut fresh: Vec<Table> = (0..2).map(|_| table_of(&mut Chance::new(5), &SequenceTracker::with_config(8192, interval))).collect();
+    let mut fresh: Vec<Table> = (0..bench.calls()).map(|_| table_of(&mut Chance::new(5), &SequenceTracker::with_config(8192, interval))).collect();
     let (mut left, mut left_ours) = (None, None);
     bench.work(
         &format!("100,000 offers, {skipped}, {from}"),
@@ -152,8 +189,8 @@ fn offers(bench: &mut Bench, interval: u64, ready: bool) {
     assert_eq!((&t.sequence_numbers[..], &t.timestamps[..]), (&ours.seqs.places()[..n], &ours.secs.places()[..n]));
 }
 
-pub fn main() {
-    let mut bench = Bench { marks: 0 };
+pub fn main(timed: bool) {
+    let mut bench = Bench { marks: 0, timed };
     for data in ["regular", "mixed"] {
         for n in [512, 2048, 8192] {
             images(&mut bench, data, n);

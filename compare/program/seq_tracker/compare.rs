@@ -1,4 +1,5 @@
-//! Compares every exported call with the Rust: `compare [seed N] [rounds N]`. `compare bench` is for the counter.
+//! Compares every exported call with the Rust: `compare [seed N] [rounds N]`. `compare bench` is for the counter, and
+//! `compare time` tells times.
 
 mod bench;
 mod bits;
@@ -34,8 +35,8 @@ fn number(words: &[String], name: &str, default: u64) -> u64 {
 }
 
 pub(crate) fn main(words: Vec<String>) -> i32 {
-    if words.first().is_some_and(|w| w == "bench") {
-        bench::main();
+    if let Some(word) = words.first().filter(|w| ["bench", "time"].contains(&w.as_str())) {
+        bench::main(word == "time");
         return 0;
     }
     // the Rust refuses an offer by a panic, which says nothing here

@@ -9,6 +9,7 @@ ghost use Rattle.signed.specs.Signed.{signed};
 ghost use Rattle.gorilla.specs.Places.{putList};
 ghost use Rattle.gorilla.specs.Format.{arrayBits, arrayBytes};
 ghost use Rattle.code_writer.specs.Inner.{codesOf};
+use bits::Place;
 use code_writer::Held;
 use code_writer::inner::RUN;
 use code_writer::inner::code_of;
@@ -20,7 +21,6 @@ use code_writer::inner::rounded;
 use code_writer::inner::takes_zero;
 use code_writer::inner::write_head;
 use code_writer::inner::write_none;
-use bits::Place;
 use gorilla::Track;
 use gorilla::inner::advance;
 

@@ -5,8 +5,8 @@ use crate::BitsWritten;
 use crate::Place;
 use crate::inner::after;
 use crate::inner::needed;
-use raw_bits::inner::put_bits;
 use crate::inner::settle;
+use raw_bits::inner::put_bits;
 
 pub fn write_bits(buf: &mut [u8], at: Place, value: u64, width: u8) -> BitsWritten
     ensures answer { λ r. ⌜ toldWrite r ≡ writeRule (now (buf .entry)) at width ⌝ }

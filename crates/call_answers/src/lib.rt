@@ -21,9 +21,9 @@ use encoder::Encoded;
 use encoder::EncodedLen;
 use lookup::FoundSeq;
 use lookup::FoundTs;
+use saving::Saved;
 use signed::Extended;
 use signed::as_unsigned;
-use saving::Saved;
 use tracker::Checked;
 
 pub fn of_read(read: BitsRead) -> Answer

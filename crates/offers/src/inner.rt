@@ -7,11 +7,11 @@ ghost use Rattle.offers.specs.Offer.{toldOffer, offering};
 use crate::Offered;
 use crate::keep;
 use crate::steps;
+use limits::inner as checks;
 use tracker::Refusal;
 use tracker::Second;
 use tracker::Seq;
 use tracker::SequenceTracker;
-use limits::inner as checks;
 
 // A recorded pair leaves a good table good, so a list of offers checks its table once.
 pub fn offer_good(

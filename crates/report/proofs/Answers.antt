@@ -18,11 +18,14 @@ use Rattle.decoder.proofs.Stored.{seqsOver, secsOver}
 use Rattle.code_reader.specs.declared.Refusal.{Refusal}
 use Rattle.decoder.specs.declared.Decoded.{Decoded}
 use Rattle.decoder.specs.declared.Decoded.the-variants as d
-use Rattle.report.specs.Ascii.{ascii}
-use Rattle.report.specs.Put.{Put}
-use Rattle.report.specs.Text.{lines, wordLine, entriesText, refusedText}
-use Rattle.report.specs.Listing.{numberOf, readText, listingOf, answerText, Held}
-use Rattle.report.proofs.Numbers.{word-length, lines-length}
+use Rattle.text.specs.Ascii.{ascii}
+use Rattle.text.specs.Inner.{Put}
+use Rattle.text.specs.Text.{wordLine}
+use Rattle.report.specs.Lines.{lines, entriesText, refusedText}
+use Rattle.report.specs.Listing.{numberOf, readText, listingOf}
+use Rattle.report.specs.Inner.{answerText, Held}
+use Rattle.text.proofs.Numbers.{word-length}
+use Rattle.report.proofs.Lengths.{lines-length}
 use Rattle.gorilla.proofs.Counts.{image-counts}
 
 module _ (a : Decoded) (seqs : List ℕ) (secs : List ℤ) where

@@ -1,5 +1,3 @@
-pub mod Putting
-pub mod Numbers
-pub mod Reading
+pub mod Lengths
 pub mod Answers
 pub mod Unique

@@ -1,4 +1,3 @@
-pub mod Ascii
-pub mod Text
-pub mod Put
+pub mod Lines
 pub mod Listing
+pub mod Inner

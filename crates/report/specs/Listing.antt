@@ -1,16 +1,12 @@
 -- What `listing` prints for its input (document 01, "The listing").
-use Prim.Native.Nat.{ℕ, _≤_}
+use Prim.Native.Nat.{ℕ}
 use mathlib.Core.Bool.{cond}
 use mathlib.Core.List.{List}
 use lib.Dec.{leb, ltb}
-use lib.IntN.{ℤ}
 use lib.ListN.{length, getD}
 use Rattle.gorilla.specs.Parser.{Read, read, refused}
 use Rattle.gorilla.specs.Reading.{Pairs, readImage}
-use Rattle.code_reader.specs.Refusal.{told}
-use Rattle.decoder.specs.declared.Decoded.{Decoded}
-use Rattle.decoder.specs.declared.Decoded.the-variants as d
-use Rattle.report.specs.Text.{entriesText, refusedText}
+use Rattle.report.specs.Lines.{entriesText, refusedText}
 
 -- of a refusal the number only, not what it also tells
 abbrev pub numberOf : List ℕ → ℕ
@@ -24,13 +20,3 @@ readText (refused told) = refusedText (numberOf told)
 -- above 16,384 bytes 22, before all others; else what the list reader reads into room for 1,024 pairs
 unfoldable pub listingOf : List ℕ → List ℕ
 listingOf input = cond (ltb 16384 (length input)) (refusedText 22) (readText (readImage (λ n. leb n 1024) input))
-
--- the text of what the list reader answered, with the arrays that it filled
-abbrev pub answerText : Decoded → List ℕ → List ℤ → List ℕ
-answerText (d.Count n) seqs secs = entriesText seqs secs n
-answerText (d.Refused r) seqs secs = refusedText (numberOf (told r))
-
--- the pairs that were answered stand in the arrays, and there are 1,024 at most
-abbrev pub Held : Decoded → List ℕ → List ℤ → Type 0
-Held (d.Count n) seqs secs = (n ≤ length seqs) × (n ≤ length secs) × (n ≤ 1024)
-Held (d.Refused r) seqs secs = Unit {0}

@@ -3,11 +3,11 @@
 ghost use mathlib.Core.Path.{_≡_};
 ghost use lib.ListN.{length};
 ghost use Rattle.told.specs.Over.{over};
-ghost use Rattle.report.specs.Listing.{listingOf, answerText, Held};
+ghost use Rattle.report.specs.Listing.{listingOf};
+ghost use Rattle.report.specs.Inner.{answerText, Held};
 
 mod lines; // lines.rt: the lines of a listing
 mod number; // number.rt: the number of a refusal
-mod text; // text.rt: bytes and numbers as text
 
 use decoder::Decoded;
 use lines::put_entries;

@@ -1,12 +1,12 @@
 // The lines of a listing, put into a lent buffer.
 ghost use Prim.Native.Nat.{_+_, _*_, _≤_, _<_};
 ghost use lib.ListN.{length};
-ghost use Rattle.report.specs.Put.{Put};
-ghost use Rattle.report.specs.Text.{line, lines, entriesText, refusedText};
-use crate::text::put_byte;
-use crate::text::put_decimal;
-use crate::text::put_signed;
-use crate::text::put_word_line;
+ghost use Rattle.text.specs.Inner.{Put};
+ghost use Rattle.report.specs.Lines.{line, lines, entriesText, refusedText};
+use text::inner::put_byte;
+use text::inner::put_decimal;
+use text::inner::put_signed;
+use text::inner::put_word_line;
 
 // The line of one pair has 64 bytes at most: 20 for the position, 20 for the sequence, 21 for the
 // second, two spaces and the end of the line.

@@ -11,29 +11,14 @@ use bits::BitsWritten;
 use bits::Place;
 use signed::Extended;
 
-// What a read told: 0 and the value, or the refusal's number.
-struct Seen {
-    number: usize,
-    value: u64,
-    next: Place,
-}
-
 // Where the place stands after a refused write: no body has so many bytes.
 const NOWHERE: usize = 65536;
-
-fn start() -> Place {
-    Place { byte: 0, bit: 0 }
-}
 
 // One write of a body, at a place.
 fn write_one(b: &[u8], from: usize, buf: &mut [u8], at: Place) -> Place {
     match bits::write_bits(buf, at, u64_at(b, from), u8_at(b, after(from, 8)) as u8) {
         BitsWritten::Done(p) => p,
-        BitsWritten::Width => Place {
-            byte: NOWHERE,
-            bit: 0,
-        },
-        BitsWritten::Short(_) => Place {
+        _ => Place {
             byte: NOWHERE,
             bit: 0,
         },
@@ -42,7 +27,7 @@ fn write_one(b: &[u8], from: usize, buf: &mut [u8], at: Place) -> Place {
 
 // n writes, one after the other from the start, and the place after them.
 fn write_each(b: &[u8], n: usize, buf: &mut [u8]) -> Place {
-    let mut at = start();
+    let mut at = Place { byte: 0, bit: 0 };
     let mut from: usize = 1;
     let mut i = 0;
     while i < n {
@@ -61,50 +46,35 @@ fn begun(at: Place) -> usize {
     after(at.byte, 1)
 }
 
-fn written_so(buf: &[u8], end: usize, want: &[u8]) -> bool {
-    if end != want.len() {
-        return false;
-    }
-    // the buffer was dirty, and no byte past the written ones may have changed
-    if u8_at(buf, end) != 255 {
-        return false;
-    }
-    begins(buf, want)
-}
-
 pub fn writes(b: &[u8], tally: &mut [u64; tally::PLACES]) {
     let n = u8_at(b, 0);
     let mut buf = [255u8; 4096];
-    let at = write_each(b, n, &mut buf);
+    let end = begun(write_each(b, n, &mut buf));
     let want = part(b, 1 + 9 * n, b.len());
-    tally::note(tally, tally::WRITES, written_so(&buf, begun(at), want));
+    // the buffer was dirty, and no byte past the written ones may have changed
+    let kept = u8_at(&buf, end) == 255;
+    tally::note(
+        tally,
+        tally::WRITES,
+        kept & (end == want.len()) & begins(&buf, want),
+    );
 }
 
-fn told(read: BitsRead, at: Place) -> Seen {
+// Whether a read gives a value, which has the number 0, or a refusal of that number.
+fn read_so(read: BitsRead, number: usize, value: u64) -> bool {
     match read {
-        BitsRead::Value(v, p) => Seen {
-            number: 0,
-            value: v,
-            next: p,
-        },
-        BitsRead::Width => Seen {
-            number: 23,
-            value: 0,
-            next: at,
-        },
-        BitsRead::Short => Seen {
-            number: 24,
-            value: 0,
-            next: at,
-        },
+        BitsRead::Value(v, _) => (number == 0) & (v == value),
+        BitsRead::Width => number == 23,
+        BitsRead::Short => number == 24,
     }
 }
 
-fn seen_so(seen: Seen, number: usize, value: u64) -> bool {
-    if seen.number != number {
-        return false;
+// The place after a read.
+fn place_of(read: BitsRead, at: Place) -> Place {
+    match read {
+        BitsRead::Value(_, p) => p,
+        _ => at,
     }
-    seen.value == value
 }
 
 // One read of a body, through a reader and without one, and the place after it.
@@ -112,15 +82,18 @@ fn read_one(b: &[u8], from: usize, s: &[u8], at: Place, tally: &mut [u64; tally:
     let width = u8_at(b, from) as u8;
     let number = u8_at(b, after(from, 1));
     let value = u64_at(b, after(from, 2));
-    let seen = told(bits::read_bits(s, at, width), at);
-    let held = told(bit_reader::read_from(s, at, width), at);
-    let agreed = seen_so(seen, number, value) & seen_so(held, number, value);
-    tally::note(tally, tally::READS, agreed);
-    seen.next
+    let read = bits::read_bits(s, at, width);
+    let held = bit_reader::read_from(s, at, width);
+    tally::note(
+        tally,
+        tally::READS,
+        read_so(read, number, value) & read_so(held, number, value),
+    );
+    place_of(read, at)
 }
 
 fn read_each(b: &[u8], first: usize, n: usize, s: &[u8], tally: &mut [u64; tally::PLACES]) {
-    let mut at = start();
+    let mut at = Place { byte: 0, bit: 0 };
     let mut from = first;
     let mut i = 0;
     while i < n {
@@ -136,17 +109,12 @@ pub fn reads(b: &[u8], tally: &mut [u64; tally::PLACES]) {
     read_each(b, 2 + size, n, part(b, 1, 1 + size), tally);
 }
 
-// The 64 bits of a signed number that is known by its low 32.
-fn widened(low: u64) -> u64 {
-    if low < 2147483648 {
-        return low;
-    }
-    std::num::wrapping_add_u64(low, 18446744069414584320)
-}
-
+// Whether an extension is the signed number whose low 32 bits are `low`.
 fn extended_so(extended: Extended, low: u64) -> bool {
     match extended {
-        Extended::Value(v) => signed::as_unsigned(v) == widened(low),
+        Extended::Value(v) => {
+            signed::as_unsigned(v) == std::num::wrapping_sub_u64(low ^ 2147483648, 2147483648)
+        }
         Extended::Width => false,
     }
 }

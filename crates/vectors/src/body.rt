@@ -1,8 +1,9 @@
 // Numbers and parts of a record's body, least significant byte first. Each answers at every place: past the end stand zeros,
 // and a part that is not there is empty.
 ghost use Prim.Native.Nat.{_<_};
+pub use std::num::wrapping_add_usize as after;
 
-fn wide(x: u8) -> usize
+pub fn wide(x: u8) -> usize
     ensures { λ r. ⌜ r < 256 ⌝ }
 {
     x as usize
@@ -35,11 +36,6 @@ pub fn u64_at(b: &[u8], at: usize) -> u64 {
 
 pub fn i64_at(b: &[u8], at: usize) -> i64 {
     signed::as_signed(u64_at(b, at))
-}
-
-// The place `n` bytes on.
-pub fn after(at: usize, n: usize) -> usize {
-    std::num::wrapping_add_usize(at, n)
 }
 
 // The bytes from `from` up to `end`.

@@ -1,5 +1,8 @@
-// The digest of FORMAT.md, of bytes, sequences and seconds.
+// The digest of FORMAT.md, of an image and of pairs.
+use crate::body::after;
 use crate::body::u8_at;
+use crate::body::u32_at;
+use crate::body::u64_at;
 use crate::lists::sec_of;
 use crate::lists::seq_of;
 
@@ -12,34 +15,26 @@ pub fn mix(x: u64) -> u64 {
     b ^ (b << 17)
 }
 
-pub fn of_bytes(s: &[u8]) -> u64 {
+// Whether an image has the length and the digest that stand at a place of a body.
+pub fn image_so(b: &[u8], at: usize, image: &[u8]) -> bool {
     let mut d = START;
     let mut i = 0;
-    while i < s.len() {
-        d = mix(d ^ u8_at(s, i) as u64);
+    while i < image.len() {
+        d = mix(d ^ u8_at(image, i) as u64);
         i += 1;
     }
-    d
+    (image.len() == u32_at(b, at)) & (d == u64_at(b, after(at, 4)))
 }
 
-// Of the first n sequences.
-pub fn of_seqs(s: &[u64], n: usize) -> u64 {
+// Whether the first n pairs have the digests that stand at a place of a body: of the sequences, then of the seconds.
+pub fn pairs_so(b: &[u8], at: usize, n: usize, seqs: &[u64], secs: &[i64]) -> bool {
     let mut d = START;
+    let mut e = START;
     let mut i = 0;
     while i < n {
-        d = mix(d ^ seq_of(s, i));
+        d = mix(d ^ seq_of(seqs, i));
+        e = mix(e ^ sec_of(secs, i));
         i += 1;
     }
-    d
-}
-
-// Of the first n seconds.
-pub fn of_secs(s: &[i64], n: usize) -> u64 {
-    let mut d = START;
-    let mut i = 0;
-    while i < n {
-        d = mix(d ^ sec_of(s, i));
-        i += 1;
-    }
-    d
+    (d == u64_at(b, at)) & (e == u64_at(b, after(at, 8)))
 }

@@ -3,65 +3,35 @@ use crate::body::after;
 use crate::body::part;
 use crate::body::u8_at;
 use crate::body::u16_at;
-use crate::lists::values_so;
+use crate::outcome;
 use crate::tally;
-use crate::told;
 
-// The number at a place of the answer that follows the image, where the Rust read it.
-fn after_image(b: &[u8], number: usize, at: usize) -> usize {
-    if number == 0 {
-        return u16_at(b, at);
+// Whether an image has the length `taken`, and the bytes after it follow; or is refused, and none do.
+fn length_so(bytes: &[u8], code: usize, taken: usize) -> bool {
+    let left = decoder::rest(bytes).len();
+    if code != 0 {
+        return (left == 0) & outcome::measured_so(bytes, code, 0);
     }
-    0
-}
-
-// The bytes that follow an image; none where it is refused.
-fn left_over(size: usize, number: usize, taken: usize) -> usize {
-    if number == 0 {
-        if taken <= size {
-            return size - taken;
-        }
-    }
-    0
-}
-
-fn length_so(b: &[u8], bytes: &[u8], size: usize) -> bool {
-    let number = u8_at(b, 0);
-    let taken = after_image(b, number, after(size, 5));
-    if decoder::rest(bytes).len() != left_over(size, number, taken) {
-        return false;
-    }
-    told::is_so(told::measured(bytes), number, u8_at(b, 1), taken)
-}
-
-fn decoding_so(b: &[u8], bytes: &[u8], size: usize) -> bool {
-    let mut seqs = [0u64; 8192];
-    let mut secs = [0i64; 8192];
-    let number = u8_at(b, 0);
-    let n = after_image(b, number, after(size, 7));
-    let got = told::decoded(bytes, &mut seqs, &mut secs);
-    if !told::is_so(got, number, u8_at(b, 1), n) {
-        return false;
-    }
-    values_so(b, after(size, 9), n, &seqs, &secs)
-}
-
-// Whether the list reader refuses with 10 and an array, which the Rust does not know.
-fn too_many_so(bytes: &[u8], array: usize) -> bool {
-    let mut seqs = [0u64; 8192];
-    let mut secs = [0i64; 8192];
-    told::is_so(told::decoded(bytes, &mut seqs, &mut secs), 10, array, 0)
+    (after(left, taken) == bytes.len()) & outcome::measured_so(bytes, 0, taken)
 }
 
 pub fn image(b: &[u8], tally: &mut [u64; tally::PLACES]) {
     let size = u16_at(b, 3);
     let bytes = part(b, 5, 5 + size);
+    let code = u16_at(b, 0);
+    let agreed = length_so(bytes, code, u16_at(b, 5 + size));
     let over = u8_at(b, 2);
-    let agreed = length_so(b, bytes, size);
     if over == 0 {
         tally::note(tally, tally::LENGTHS, agreed);
-        tally::note(tally, tally::DECODINGS, decoding_so(b, bytes, size));
+        let n = u16_at(b, 7 + size);
+        tally::note(
+            tally,
+            tally::DECODINGS,
+            outcome::read_so(bytes, code, n, b, 9 + size, false),
+        );
     } else {
-        tally::note(tally, tally::LENGTHS, agreed & too_many_so(bytes, over - 1));
+        // the list reader refuses with 10 and the array, which the Rust does not know
+        let many = outcome::read_so(bytes, 10 + 256 * (over - 1), 0, b, 0, false);
+        tally::note(tally, tally::LENGTHS, agreed & many);
     }
 }

@@ -3,11 +3,10 @@ use crate::body::begins;
 use crate::body::part;
 use crate::body::u8_at;
 use crate::body::u32_at;
-use crate::body::u64_at;
-use crate::digest;
+use crate::digest::image_so;
 use crate::lists;
+use crate::outcome;
 use crate::tally;
-use crate::told;
 use encoder::Encoded;
 use encoder::EncodedLen;
 use encoder::Refusal;
@@ -23,73 +22,46 @@ fn counted(seqs: &[u64], secs: &[i64]) -> usize {
     }
 }
 
-// The bytes of an image that was written, 0 if it is refused.
-fn encoded(seqs: &[u64], secs: &[i64], out: &mut [u8]) -> usize {
-    match encoder::encode(seqs, secs, out) {
+// The bytes of an image that was written; 0 for refusal 20, which is expected of a list that does not read back, and 1 for
+// another one.
+fn encoded(answer: Encoded) -> usize {
+    match answer {
         Encoded::Written(n) => n,
-        Encoded::Refused(_) => 0,
+        Encoded::Refused(why) => match why {
+            Refusal::Wide(_, _) => 0,
+            _ => 1,
+        },
     }
 }
 
-// 0 for refusal 20, which is expected of a list that does not read back, and 1 for another one.
-fn refused(why: Refusal) -> usize {
-    match why {
-        Refusal::Wide(_, _) => 0,
-        _ => 1,
-    }
-}
-
-fn encoded_strictly(seqs: &[u64], secs: &[i64], out: &mut [u8]) -> usize {
-    match encoder::encode_strict(seqs, secs, out) {
-        Encoded::Written(n) => n,
-        Encoded::Refused(why) => refused(why),
-    }
-}
-
-// Whether the length and the encoder give the image `want`.
-fn encoding_so(seqs: &[u64], secs: &[i64], want: &[u8]) -> bool {
-    let mut out = [255u8; 4096];
-    if counted(seqs, secs) != want.len() {
-        return false;
-    }
-    if encoded(seqs, secs, &mut out) != want.len() {
-        return false;
-    }
-    begins(&out, want)
-}
-
-// Whether the strict encoder writes that image, or refuses a list that does not read back.
-fn strict_so(seqs: &[u64], secs: &[i64], want: &[u8], same: usize) -> bool {
-    let mut out = [255u8; 4096];
-    let n = encoded_strictly(seqs, secs, &mut out);
-    if same == 0 {
+// Whether n bytes were written and are those of `want`, or none and the list does not read back.
+fn strict_so(n: usize, out: &[u8], want: &[u8], same: bool) -> bool {
+    if !same {
         return n == 0;
     }
-    if n != want.len() {
-        return false;
-    }
-    begins(&out, want)
-}
-
-// Whether the image reads back as the list of a record E.
-fn reads_back(b: &[u8], image: &[u8]) -> bool {
-    let mut seqs = [0u64; lists::LISTED];
-    let mut secs = [0i64; lists::LISTED];
-    let n = u8_at(b, 0);
-    let got = told::decoded(image, &mut seqs, &mut secs);
-    if !told::is_so(got, 0, 0, n) {
-        return false;
-    }
-    lists::values_so(b, 2, n, &seqs, &secs)
+    (n == want.len()) & begins(out, want)
 }
 
 fn list(b: &[u8], seqs: &[u64], secs: &[i64], tally: &mut [u64; tally::PLACES]) {
     let n = u8_at(b, 0);
+    let same = u8_at(b, 1) == 1;
     let want = part(b, 2 + 16 * n, b.len());
-    tally::note(tally, tally::ENCODINGS, encoding_so(seqs, secs, want));
-    let same = u8_at(b, 1);
-    let agreed = strict_so(seqs, secs, want, same) & (reads_back(b, want) == (same == 1));
-    tally::note(tally, tally::READBACKS, agreed);
+    let mut out = [255u8; 4096];
+    let written = encoded(encoder::encode(seqs, secs, &mut out));
+    let sized = counted(seqs, secs) == want.len();
+    tally::note(
+        tally,
+        tally::ENCODINGS,
+        sized & strict_so(written, &out, want, true),
+    );
+    let mut strict = [255u8; 4096];
+    let firm = encoded(encoder::encode_strict(seqs, secs, &mut strict));
+    let back = outcome::read_so(want, 0, n, b, 2, false);
+    tally::note(
+        tally,
+        tally::READBACKS,
+        strict_so(firm, &strict, want, same) & (back == same),
+    );
 }
 
 pub fn listed(b: &[u8], tally: &mut [u64; tally::PLACES]) {
@@ -105,45 +77,31 @@ pub fn listed(b: &[u8], tally: &mut [u64; tally::PLACES]) {
     );
 }
 
-// Whether an image has the length and the digest of a record Y.
-fn image_so(b: &[u8], image: &[u8]) -> bool {
-    if image.len() != u32_at(b, 61) {
-        return false;
-    }
-    digest::of_bytes(image) == u64_at(b, 65)
-}
-
-// Whether an image reads back as the lists whose digests a record Y has.
-fn read_back_so(b: &[u8], image: &[u8], n: usize) -> bool {
-    let mut seqs = [0u64; 8192];
-    let mut secs = [0i64; 8192];
-    let got = told::decoded(image, &mut seqs, &mut secs);
-    if !told::is_so(got, 0, 0, n) {
-        return false;
-    }
-    if digest::of_seqs(&seqs, n) != u64_at(b, 73) {
-        return false;
-    }
-    digest::of_secs(&secs, n) == u64_at(b, 81)
-}
-
-fn long_strict_so(b: &[u8], seqs: &[u64], secs: &[i64]) -> bool {
-    let mut out = [0u8; ROOM];
-    let n = encoded_strictly(seqs, secs, &mut out);
+// Whether the strict encoder's image is that of a record Y, or there is none and the list does not read back.
+fn long_strict_so(b: &[u8], image: &[u8]) -> bool {
     if u8_at(b, 60) == 0 {
-        return n == 0;
+        return image.len() == 0;
     }
-    image_so(b, part(&out, 0, n))
+    image_so(b, 61, image)
 }
 
 fn long_list(b: &[u8], seqs: &[u64], secs: &[i64], tally: &mut [u64; tally::PLACES]) {
     let mut out = [0u8; ROOM];
-    let n = encoded(seqs, secs, &mut out);
-    let image = part(&out, 0, n);
-    tally::note(tally, tally::ENCODINGS, image_so(b, image));
-    let agreed = read_back_so(b, image, seqs.len());
-    tally::note(tally, tally::DECODINGS, agreed);
-    tally::note(tally, tally::READBACKS, long_strict_so(b, seqs, secs));
+    let written = encoded(encoder::encode(seqs, secs, &mut out));
+    let image = part(&out, 0, written);
+    tally::note(tally, tally::ENCODINGS, image_so(b, 61, image));
+    tally::note(
+        tally,
+        tally::DECODINGS,
+        outcome::read_so(image, 0, seqs.len(), b, 73, true),
+    );
+    let mut strict = [0u8; ROOM];
+    let firm = encoded(encoder::encode_strict(seqs, secs, &mut strict));
+    tally::note(
+        tally,
+        tally::READBACKS,
+        long_strict_so(b, part(&strict, 0, firm)),
+    );
 }
 
 pub fn ruled(b: &[u8], tally: &mut [u64; tally::PLACES]) {

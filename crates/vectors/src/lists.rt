@@ -5,6 +5,7 @@ use crate::body::i64_at;
 use crate::body::u32_at;
 use crate::body::u64_at;
 use crate::digest;
+use std::num::wrapping_add_u64;
 
 // The most pairs that a rule stands for here.
 pub const MOST: usize = 16384;
@@ -51,53 +52,30 @@ pub fn sec_of(s: &[i64], i: usize) -> u64 {
     0
 }
 
-fn read_seqs(b: &[u8], from: usize, n: usize, to: &mut [u64]) {
-    let mut at = from;
-    let mut i = 0;
-    while i < n {
-        put_seq(to, i, u64_at(b, at));
-        at = after(at, 8);
-        i += 1;
-    }
-}
-
-fn read_secs(b: &[u8], from: usize, n: usize, to: &mut [i64]) {
-    let mut at = from;
-    let mut i = 0;
-    while i < n {
-        put_sec(to, i, i64_at(b, at));
-        at = after(at, 8);
-        i += 1;
-    }
-}
-
 // The n pairs that a body lists: the sequences, then the seconds.
 pub fn read_pairs(b: &[u8], from: usize, n: usize, seqs: &mut [u64], secs: &mut [i64])
     requires { ⌜ n < 256 ⌝ }
 {
-    read_seqs(b, from, n, seqs);
-    read_secs(b, after(from, 8 * n), n, secs);
-}
-
-// Whether the first n sequences are those of a body.
-fn same_seqs(b: &[u8], from: usize, n: usize, s: &[u64]) -> bool {
+    let all = 8 * n;
     let mut at = from;
     let mut i = 0;
     while i < n {
-        if u64_at(b, at) != seq_of(s, i) {
-            return false;
-        }
+        put_seq(seqs, i, u64_at(b, at));
+        put_sec(secs, i, i64_at(b, after(at, all)));
         at = after(at, 8);
         i += 1;
     }
-    true
 }
 
-fn same_secs(b: &[u8], from: usize, n: usize, s: &[i64]) -> bool {
+// Whether the first n pairs are those whose sequences and seconds stand at a place of a body and `all` bytes on.
+fn same_pairs(b: &[u8], from: usize, all: usize, n: usize, seqs: &[u64], secs: &[i64]) -> bool {
     let mut at = from;
     let mut i = 0;
     while i < n {
-        if u64_at(b, at) != sec_of(s, i) {
+        if u64_at(b, at) != seq_of(seqs, i) {
+            return false;
+        }
+        if u64_at(b, after(at, all)) != sec_of(secs, i) {
             return false;
         }
         at = after(at, 8);
@@ -109,15 +87,9 @@ fn same_secs(b: &[u8], from: usize, n: usize, s: &[i64]) -> bool {
 // Whether the first n pairs are those that a body lists or has the digests of.
 pub fn values_so(b: &[u8], at: usize, n: usize, seqs: &[u64], secs: &[i64]) -> bool {
     if n > LISTED {
-        if digest::of_seqs(seqs, n) != u64_at(b, at) {
-            return false;
-        }
-        return digest::of_secs(secs, n) == u64_at(b, after(at, 8));
+        return digest::pairs_so(b, at, n, seqs, secs);
     }
-    if !same_seqs(b, at, n, seqs) {
-        return false;
-    }
-    same_secs(b, after(at, 8 * n), n, secs)
+    same_pairs(b, at, 8 * n, n, seqs, secs)
 }
 
 // Whether a number is among n of a body.
@@ -163,20 +135,16 @@ pub fn rule_of(b: &[u8]) -> Rule {
     }
 }
 
-fn stepped(v: u64, step: u64, more: u64) -> u64 {
-    std::num::wrapping_add_u64(v, std::num::wrapping_add_u64(step, more))
-}
-
 // The rule at its next pair.
 fn next(r: Rule) -> Rule {
     let x = digest::mix(r.x);
     Rule {
         count: r.count,
         x: x,
-        seq: stepped(r.seq, r.seq_step, x & r.seq_mask),
+        seq: wrapping_add_u64(r.seq, wrapping_add_u64(r.seq_step, x & r.seq_mask)),
         seq_step: r.seq_step,
         seq_mask: r.seq_mask,
-        sec: stepped(r.sec, r.sec_step, (x >> 32) & r.sec_mask),
+        sec: wrapping_add_u64(r.sec, wrapping_add_u64(r.sec_step, (x >> 32) & r.sec_mask)),
         sec_step: r.sec_step,
         sec_mask: r.sec_mask,
     }

@@ -5,11 +5,11 @@ mod digest; // digest.rt: digests of long lists and images
 mod image_records; // image_records.rt: images that are read
 mod list_records; // list_records.rt: lists that are encoded
 mod lists; // lists.rt: lists of sequences and seconds
+mod outcome; // outcome.rt: what the reader answers
 mod records; // records.rt: one record after the other
 mod sizes; // sizes.rt: the bodies that each kind may have
 mod table_records; // table_records.rt: what changes the standing table
 mod tally; // tally.rt: how many answers agreed
-mod told; // told.rt: refusals as numbers
 mod view_records; // view_records.rt: what looks at the standing table
 
 fn main() {

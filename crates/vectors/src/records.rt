@@ -36,24 +36,11 @@ fn replay_codec(kind: u8, b: &[u8], tally: &mut [u64; tally::PLACES]) {
 // Whether the table agrees with a record that looks at it.
 fn view_so(kind: u8, b: &[u8], table: SequenceTracker, seqs: &[u64], secs: &[i64]) -> bool {
     match kind {
-        b'S' => view_records::shown_so(b, table, seqs, secs),
-        b'H' => view_records::shown_so(b, table, seqs, secs),
+        b'S' | b'H' => view_records::shown_so(b, table, seqs, secs),
         b'V' => view_records::saved_so(b, table, seqs, secs),
         b'F' => view_records::second_so(b, table, seqs, secs),
         b'K' => view_records::seq_so(b, table, seqs, secs),
         _ => false,
-    }
-}
-
-// What a record that looks at the table asks.
-fn view_question(kind: u8) -> usize {
-    match kind {
-        b'S' => tally::TABLES,
-        b'H' => tally::TABLES,
-        b'V' => tally::SAVES,
-        b'F' => tally::LOOKUPS,
-        b'K' => tally::LOOKUPS,
-        _ => tally::ANSWERS,
     }
 }
 
@@ -71,22 +58,28 @@ fn replay_change(
         b'G' => table_records::run(b, table, seqs, secs),
         b'X' => table_records::extended(b, table, seqs, secs),
         b'R' => table_records::restored(b, table, seqs, secs),
-        _ => table_records::leaves(table, false),
+        _ => Changed {
+            table: table,
+            agreed: false,
+        },
     }
 }
 
-// What a record that changes the table asks; T asks nothing.
-fn change_question(kind: u8) -> usize {
+// What a record that looks at the table or changes it asks; T asks nothing.
+fn question(kind: u8) -> usize {
     match kind {
         b'O' => tally::OFFERS,
         b'G' => tally::RUNS,
         b'X' => tally::EXTENDS,
         b'R' => tally::RESTORES,
+        b'S' | b'H' => tally::TABLES,
+        b'V' => tally::SAVES,
+        b'F' | b'K' => tally::LOOKUPS,
         _ => tally::ANSWERS,
     }
 }
 
-// A record of any kind, and the table after it. Each part passes over what is not its own.
+// A record of any kind, and the table after it. Each part passes over what is not its own, and agrees with none of it.
 fn replay(
     kind: u8,
     b: &[u8],
@@ -97,9 +90,8 @@ fn replay(
 ) -> SequenceTracker {
     replay_codec(kind, b, tally);
     let agreed = view_so(kind, b, table, seqs, secs);
-    tally::note(tally, view_question(kind), agreed);
     let done = replay_change(kind, b, table, seqs, secs);
-    tally::note(tally, change_question(kind), done.agreed);
+    tally::note(tally, question(kind), agreed | done.agreed);
     done.table
 }
 
@@ -114,10 +106,6 @@ fn is_read(record: &mut [u8], from: usize, end: usize) -> bool {
     io::read_full(libc::STDIN_FILENO, &mut record[from..end]) == end - from
 }
 
-fn kind_of(record: &[u8]) -> u8 {
-    u8_at(record, 0) as u8
-}
-
 // Reads the next record, and answers its length.
 fn read_record(record: &mut [u8]) -> usize {
     if !is_read(record, 0, 3) {
@@ -127,7 +115,7 @@ fn read_record(record: &mut [u8]) -> usize {
     if !is_read(record, 3, end) {
         return DAMAGED;
     }
-    if is_whole(kind_of(record), part(record, 3, end)) {
+    if is_whole(u8_at(record, 0) as u8, part(record, 3, end)) {
         return end;
     }
     DAMAGED
@@ -148,7 +136,7 @@ fn replay_all(
         if end == DAMAGED {
             return left;
         }
-        let kind = kind_of(&record);
+        let kind = u8_at(&record, 0) as u8;
         table = replay(kind, part(&record, 3, end), table, seqs, secs, tally);
         left -= 1;
     }

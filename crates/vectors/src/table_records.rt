@@ -1,4 +1,5 @@
 // Records that change the standing table: T, O, G, X and R.
+use crate::body::after;
 use crate::body::i64_at;
 use crate::body::part;
 use crate::body::u8_at;
@@ -6,7 +7,7 @@ use crate::body::u16_at;
 use crate::body::u32_at;
 use crate::body::u64_at;
 use crate::lists;
-use crate::told;
+use crate::outcome::code_of;
 use log::Logged;
 use offers::Offered;
 use restoring::Restored;
@@ -54,26 +55,34 @@ fn stopped_at(at: usize, why: Refusal, offered: usize) -> usize {
     UNEXPECTED
 }
 
-pub fn leaves(table: SequenceTracker, agreed: bool) -> Changed {
-    Changed {
-        table: table,
-        agreed: agreed,
-    }
-}
-
 pub fn made(b: &[u8], table: SequenceTracker) -> Changed {
     match fresh::with_config(u32_at(b, 0) as u32, u64_at(b, 4)) {
-        Made::Table(fresh) => leaves(fresh, true),
-        Made::Refused(_) => leaves(table, false),
+        Made::Table(fresh) => Changed {
+            table: fresh,
+            agreed: true,
+        },
+        Made::Refused(_) => Changed {
+            table: table,
+            agreed: false,
+        },
     }
 }
 
 pub fn offered(b: &[u8], table: SequenceTracker, seqs: &mut [u64], secs: &mut [i64]) -> Changed {
     let outcome = u8_at(b, 16);
     match offers::offer(table, seqs, secs, Seq(u64_at(b, 0)), Second(i64_at(b, 8))) {
-        Offered::Recorded(next) => leaves(next, outcome == 0),
-        Offered::Skipped => leaves(table, outcome == 1),
-        Offered::Refused(why) => leaves(table, outcome == number_of(why)),
+        Offered::Recorded(next) => Changed {
+            table: next,
+            agreed: outcome == 0,
+        },
+        Offered::Skipped => Changed {
+            table: table,
+            agreed: outcome == 1,
+        },
+        Offered::Refused(why) => Changed {
+            table: table,
+            agreed: outcome == number_of(why),
+        },
     }
 }
 
@@ -81,26 +90,9 @@ pub fn offered(b: &[u8], table: SequenceTracker, seqs: &mut [u64], secs: &mut [i
 fn ran_so(ran: Ran, recorded: usize, skipped: usize, refused: usize) -> Changed {
     let table = ran.table;
     let counts = (ran.recorded == recorded) & (ran.skipped == skipped);
-    leaves(table, counts & (ran.refused == refused))
-}
-
-// The answer at the end of a record G.
-fn run_so(b: &[u8], ran: Ran) -> Changed {
-    ran_so(ran, u32_at(b, 60), u32_at(b, 64), u8_at(b, 68))
-}
-
-// The answer at the end of a record X.
-fn extended_so(b: &[u8], ran: Ran) -> Changed {
-    let at = 13 + 16 * u8_at(b, 12);
-    ran_so(ran, u16_at(b, at), u16_at(b, at + 2), u8_at(b, at + 4))
-}
-
-fn none_ran(table: SequenceTracker, refused: usize) -> Ran {
-    Ran {
+    Changed {
         table: table,
-        recorded: 0,
-        skipped: 0,
-        refused: refused,
+        agreed: counts & (ran.refused == refused),
     }
 }
 
@@ -121,16 +113,14 @@ fn logged_of(logged: Logged, own: SequenceTracker) -> Ran {
             table: table,
             recorded: tally.recorded,
             skipped: tally.skipped,
-            refused: stopped_at(
-                at,
-                why,
-                std::num::wrapping_add_usize(tally.recorded, tally.skipped),
-            ),
+            refused: stopped_at(at, why, after(tally.recorded, tally.skipped)),
         },
-        Logged::Refused(_) => none_ran(own, UNEXPECTED),
-        Logged::OwnRefused(_) => none_ran(own, UNEXPECTED),
-        Logged::OtherRefused(_) => none_ran(own, UNEXPECTED),
-        Logged::LengthsDiffer => none_ran(own, UNEXPECTED),
+        _ => Ran {
+            table: own,
+            recorded: 0,
+            skipped: 0,
+            refused: UNEXPECTED,
+        },
     }
 }
 
@@ -146,7 +136,12 @@ pub fn run(b: &[u8], table: SequenceTracker, seqs: &mut [u64], secs: &mut [i64])
         lists::first_seqs(&from_seqs, n),
         lists::first_secs(&from_secs, n),
     );
-    run_so(b, logged_of(logged, table))
+    ran_so(
+        logged_of(logged, table),
+        u32_at(b, 60),
+        u32_at(b, 64),
+        u8_at(b, 68),
+    )
 }
 
 // The last of n seconds, if any.
@@ -160,48 +155,42 @@ fn last_of(secs: &[i64], n: usize) -> LastRecorded {
     LastRecorded::At(Second(secs[n - 1]))
 }
 
-// The other table of a record X: its settings, and n pairs.
-fn other_of(b: &[u8], n: usize, last: LastRecorded) -> SequenceTracker {
-    SequenceTracker {
-        count: n,
-        capacity: u32_at(b, 0) as u32,
-        interval_secs: u64_at(b, 4),
-        last_recorded_ts: last,
-    }
-}
-
 pub fn extended(b: &[u8], table: SequenceTracker, seqs: &mut [u64], secs: &mut [i64]) -> Changed {
     let mut from_seqs = [0u64; 8192];
     let mut from_secs = [0i64; 8192];
     let n = u8_at(b, 12);
     lists::read_pairs(b, 13, n, &mut from_seqs, &mut from_secs);
-    let other = other_of(b, n, last_of(&from_secs, n));
-    let told = log_pairs::extend_from(table, seqs, secs, other, &from_seqs, &from_secs);
-    extended_so(b, logged_of(told, table))
+    let last = last_of(&from_secs, n);
+    let other = SequenceTracker {
+        count: n,
+        capacity: u32_at(b, 0) as u32,
+        interval_secs: u64_at(b, 4),
+        last_recorded_ts: last,
+    };
+    let answer = log_pairs::extend_from(table, seqs, secs, other, &from_seqs, &from_secs);
+    let at = 13 + 16 * n;
+    ran_so(
+        logged_of(answer, table),
+        u16_at(b, at),
+        u16_at(b, after(at, 2)),
+        u8_at(b, after(at, 4)),
+    )
 }
 
-fn settings_so(b: &[u8], table: SequenceTracker) -> bool {
-    if table.capacity as usize != u32_at(b, 2) {
-        return false;
+// Whether a table has the settings of a record R, and the record the code of what restore answered.
+fn restored_so(b: &[u8], table: SequenceTracker, code: usize) -> Changed {
+    let capacity = table.capacity as usize == u32_at(b, 2);
+    let settings = capacity & (table.interval_secs == u64_at(b, 6));
+    Changed {
+        table: table,
+        agreed: settings & (code == u16_at(b, 0)),
     }
-    table.interval_secs == u64_at(b, 6)
-}
-
-// A restore that is to give a table.
-fn table_so(b: &[u8], table: SequenceTracker) -> Changed {
-    leaves(table, settings_so(b, table) & (u8_at(b, 0) == 0))
-}
-
-// A restore that the list reader refuses: the table stays, with its settings.
-fn refusal_so(b: &[u8], table: SequenceTracker, why: decoder::Refusal) -> Changed {
-    let agreed = told::is_so(told::refused(why), u8_at(b, 0), u8_at(b, 1), 0);
-    leaves(table, agreed & settings_so(b, table))
 }
 
 pub fn restored(b: &[u8], table: SequenceTracker, seqs: &mut [u64], secs: &mut [i64]) -> Changed {
     match restoring::restore(part(b, 14, b.len()), seqs, secs) {
-        Restored::Table(next) => table_so(b, next),
-        Restored::Refused(why) => leaves(table, u8_at(b, 0) == number_of(why)),
-        Restored::NotDecoded(why) => refusal_so(b, table, why),
+        Restored::Table(next) => restored_so(b, next, 0),
+        Restored::Refused(why) => restored_so(b, table, number_of(why)),
+        Restored::NotDecoded(why) => restored_so(b, table, code_of(why)),
     }
 }

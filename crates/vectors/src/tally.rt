@@ -1,4 +1,6 @@
 // How many answers of the Rust were met and how many were not, by what was asked.
+use std::num::wrapping_add_u64;
+
 pub const WRITES: usize = 0;
 
 pub const READS: usize = 1;
@@ -30,21 +32,19 @@ pub const RESTORES: usize = 13;
 // The sum of all of them; as a question, none.
 pub const ANSWERS: usize = 14;
 
-// Agreed at twice the question, differed at the place after it.
+// Those that differed stand so many places after those that agreed.
+const KINDS: usize = 15;
+
 pub const PLACES: usize = 30;
 
-fn one_more(tally: &mut [u64; PLACES], place: usize) {
+// One more answer at a place, and at the place of its sum.
+fn count(tally: &mut [u64; PLACES], place: usize, sum: usize) {
     if place < PLACES {
-        tally[place] = std::num::wrapping_add_u64(tally[place], 1);
+        tally[place] = wrapping_add_u64(tally[place], 1);
     }
-}
-
-fn place_of(question: usize, agreed: bool) -> usize {
-    let twice = std::num::wrapping_add_usize(question, question);
-    if agreed {
-        return twice;
+    if sum < PLACES {
+        tally[sum] = wrapping_add_u64(tally[sum], 1);
     }
-    std::num::wrapping_add_usize(twice, 1)
 }
 
 // One more answer compared.
@@ -52,22 +52,22 @@ pub fn note(tally: &mut [u64; PLACES], question: usize, agreed: bool) {
     if question >= ANSWERS {
         return;
     }
-    one_more(tally, place_of(question, agreed));
-    one_more(tally, place_of(ANSWERS, agreed));
-}
-
-fn print_count(tally: &[u64; PLACES], place: usize) {
-    if place < PLACES {
-        io::print_decimal(libc::STDOUT_FILENO, tally[place]);
+    if agreed {
+        count(tally, question, ANSWERS);
+    } else {
+        count(tally, question + KINDS, ANSWERS + KINDS);
     }
 }
 
 fn print_line(name: &[u8], tally: &[u64; PLACES], question: usize) {
+    if question >= KINDS {
+        return;
+    }
     io::write_all(libc::STDOUT_FILENO, name);
     io::write_all(libc::STDOUT_FILENO, b" agreed ");
-    print_count(tally, place_of(question, true));
+    io::print_decimal(libc::STDOUT_FILENO, tally[question]);
     io::write_all(libc::STDOUT_FILENO, b" differed ");
-    print_count(tally, place_of(question, false));
+    io::print_decimal(libc::STDOUT_FILENO, tally[question + KINDS]);
     io::write_all(libc::STDOUT_FILENO, b"\n");
 }
 
@@ -81,7 +81,8 @@ fn print_codec(tally: &[u64; PLACES]) {
     print_line(b"lengths", tally, LENGTHS);
 }
 
-fn print_tables(tally: &[u64; PLACES]) {
+pub fn print(tally: &[u64; PLACES]) {
+    print_codec(tally);
     print_line(b"offers", tally, OFFERS);
     print_line(b"tables", tally, TABLES);
     print_line(b"lookups", tally, LOOKUPS);
@@ -89,10 +90,5 @@ fn print_tables(tally: &[u64; PLACES]) {
     print_line(b"runs", tally, RUNS);
     print_line(b"extends", tally, EXTENDS);
     print_line(b"restores", tally, RESTORES);
-}
-
-pub fn print(tally: &[u64; PLACES]) {
-    print_codec(tally);
-    print_tables(tally);
     print_line(b"answers", tally, ANSWERS);
 }

@@ -3,9 +3,8 @@ use crate::body::i64_at;
 use crate::body::part;
 use crate::body::u8_at;
 use crate::body::u16_at;
-use crate::body::u32_at;
 use crate::body::u64_at;
-use crate::digest;
+use crate::digest::image_so;
 use crate::lists::among;
 use crate::lists::values_so;
 use lookup::FindOption;
@@ -25,50 +24,33 @@ fn last_so(b: &[u8], last: LastRecorded) -> bool {
         LastRecorded::Never => u8_at(b, 2) == 0,
         LastRecorded::At(s) => {
             let x = s.0;
-            if u8_at(b, 2) != 1 {
-                return false;
-            }
-            x == i64_at(b, 3)
+            (u8_at(b, 2) == 1) & (x == i64_at(b, 3))
         }
     }
 }
 
-// Whether the count and the last recorded second are those of a body.
-fn state_so(b: &[u8], table: SequenceTracker) -> bool {
-    if table.count != u16_at(b, 0) {
-        return false;
-    }
-    let last = table.last_recorded_ts;
-    last_so(b, last)
-}
-
+// The count, the last recorded second and the pairs.
 pub fn shown_so(b: &[u8], table: SequenceTracker, seqs: &[u64], secs: &[i64]) -> bool {
-    if !state_so(b, table) {
+    let n = u16_at(b, 0);
+    let last = table.last_recorded_ts;
+    if table.count != n {
         return false;
     }
-    values_so(b, 11, u16_at(b, 0), seqs, secs)
+    last_so(b, last) & values_so(b, 11, n, seqs, secs)
 }
 
 // The bytes that saving writes, 0 if it refuses.
 fn saved_len(table: SequenceTracker, seqs: &[u64], secs: &[i64], out: &mut [u8]) -> usize {
     match saving::save(table, seqs, secs, out) {
         Saved::Written(n) => n,
-        Saved::Refused(_) => 0,
-        Saved::NotEncoded(_) => 0,
+        _ => 0,
     }
-}
-
-fn image_so(b: &[u8], image: &[u8]) -> bool {
-    if image.len() != u32_at(b, 0) {
-        return false;
-    }
-    digest::of_bytes(image) == u64_at(b, 4)
 }
 
 pub fn saved_so(b: &[u8], table: SequenceTracker, seqs: &[u64], secs: &[i64]) -> bool {
     let mut out = [0u8; ROOM];
     let n = saved_len(table, seqs, secs, &mut out);
-    image_so(b, part(&out, 0, n))
+    image_so(b, 0, part(&out, 0, n))
 }
 
 fn way_of(number: usize) -> FindOption {

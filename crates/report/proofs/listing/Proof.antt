@@ -1,7 +1,8 @@
 use borrow.Author.Needs.{needs}
 use native.Mathlib.Omega.{arith}
 use mathlib.Core.Path.{_≡_, refl}
-use Rattle.report.specs.Listing.{listingOf, answerText, Held}
+use Rattle.report.specs.Listing.{listingOf}
+use Rattle.report.specs.Inner.{answerText, Held}
 use Rattle.report.proofs.Answers.{too-long, whole, refused-length, listing-answered}
 use Rattle.report.proofs.listing.Statement.{statement}
 use Rattle.report.proofs.listing.Tie as tie

@@ -1,9 +1,9 @@
 use borrow.Author.Needs.{needs}
 use native.Mathlib.Omega.{arith}
-use Rattle.report.specs.Ascii.{ascii}
-use Rattle.report.specs.Text.{entriesText}
-use Rattle.report.proofs.Putting.{then, put-length}
-use Rattle.report.proofs.Numbers.{word-length}
+use Rattle.text.specs.Ascii.{ascii}
+use Rattle.report.specs.Lines.{entriesText}
+use Rattle.text.proofs.Putting.{then, put-length}
+use Rattle.text.proofs.Numbers.{word-length}
 use Rattle.report.proofs.lines.put_entries.Statement.{statement}
 use Rattle.report.proofs.lines.put_entries.Tie as tie
 

@@ -2,9 +2,9 @@ use borrow.Author.Needs.{needs}
 use native.Mathlib.Omega.{arith}
 use Prim.Native.Nat.{_-_}
 use mir.Facts.{toZ-ofZ}
-use Rattle.report.specs.Text.{line}
-use Rattle.report.proofs.Putting.{then, next}
-use Rattle.report.proofs.Numbers.{decimal-length, signed-length}
+use Rattle.report.specs.Lines.{line}
+use Rattle.text.proofs.Putting.{then, next}
+use Rattle.text.proofs.Numbers.{decimal-length, signed-length}
 use Rattle.report.proofs.lines.put_line.Statement.{statement}
 use Rattle.report.proofs.lines.put_line.Tie as tie
 

@@ -4,10 +4,10 @@ use Prim.Native.Nat.{_-_, _≤_}
 use mathlib.Core.Path.{_≡_}
 use mir.Facts.{toZ-ofZ}
 use borrow.Author.Needs.{sfits-of}
-use Rattle.report.specs.Put.{Put}
-use Rattle.report.specs.Text.{lines}
-use Rattle.report.proofs.Putting.{then, put-length}
-use Rattle.report.proofs.Numbers.{lines-more, lines-length, none}
+use Rattle.text.specs.Inner.{Put}
+use Rattle.report.specs.Lines.{lines}
+use Rattle.text.proofs.Putting.{then, put-length}
+use Rattle.report.proofs.Lengths.{lines-more, lines-length, none}
 use Rattle.report.proofs.lines.put_lines.Statement.{statement}
 use Rattle.report.proofs.lines.put_lines.Tie as tie
 

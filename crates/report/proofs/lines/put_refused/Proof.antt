@@ -1,5 +1,5 @@
 use borrow.Author.Needs.{needs}
-use Rattle.report.specs.Text.{refusedText}
+use Rattle.report.specs.Lines.{refusedText}
 use Rattle.report.proofs.lines.put_refused.Statement.{statement}
 use Rattle.report.proofs.lines.put_refused.Tie as tie
 

@@ -9,17 +9,14 @@ Inv-loop b first n s tally₀ at₀ from₀ i₀ tally at from i = Unit {0}
 abbrev μ-loop : tie.MeasureT-loop
 μ-loop b first n s tally₀ at₀ from₀ i₀ tally at from i = n - i
 
-start-requires : tie.Need-start-requires Inv-loop μ-loop
-start-requires c κs = search needs
-
 loop-holds : tie.Need-loop-holds Inv-loop μ-loop
 loop-holds c = search needs
 
 read-one-requires : tie.Need-read-one-requires Inv-loop μ-loop
 read-one-requires c κs = search needs
 
-after-requires : tie.Need-after-requires Inv-loop μ-loop
-after-requires c κs = search needs
+wrapping-add-usize-requires : tie.Need-wrapping-add-usize-requires Inv-loop μ-loop
+wrapping-add-usize-requires c κs = search needs
 
 add-i : tie.Need-add-i Inv-loop μ-loop
 add-i c = search needs
@@ -39,10 +36,9 @@ read-each-spec =
     (tie.spec
     Inv-loop
     μ-loop
-    start-requires
     loop-holds
     read-one-requires
-    after-requires
+    wrapping-add-usize-requires
     add-i
     loop-less
     loop-again

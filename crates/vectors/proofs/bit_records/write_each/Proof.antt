@@ -11,17 +11,14 @@ Inv-loop b n buf₀ at₀ from₀ i₀ buf at from i = (length buf ≡ length bu
 abbrev μ-loop : tie.MeasureT-loop
 μ-loop b n buf₀ at₀ from₀ i₀ buf at from i = n - i
 
-start-requires : tie.Need-start-requires Inv-loop μ-loop
-start-requires c κs = search needs
-
 loop-holds : tie.Need-loop-holds Inv-loop μ-loop
 loop-holds c = search needs
 
 write-one-requires : tie.Need-write-one-requires Inv-loop μ-loop
 write-one-requires c κs = search needs
 
-after-requires : tie.Need-after-requires Inv-loop μ-loop
-after-requires c κs = search needs
+wrapping-add-usize-requires : tie.Need-wrapping-add-usize-requires Inv-loop μ-loop
+wrapping-add-usize-requires c κs = search needs
 
 add-i : tie.Need-add-i Inv-loop μ-loop
 add-i c = search needs
@@ -44,10 +41,9 @@ write-each-spec =
     (tie.spec
     Inv-loop
     μ-loop
-    start-requires
     loop-holds
     write-one-requires
-    after-requires
+    wrapping-add-usize-requires
     add-i
     loop-less
     loop-again

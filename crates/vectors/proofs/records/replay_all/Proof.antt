@@ -31,11 +31,14 @@ same-length-2 c = search needs
 returns : tie.Need-returns Inv-loop μ-loop
 returns c = search needs
 
-slice-aggregate-kind-of : tie.Need-slice-aggregate-kind-of Inv-loop μ-loop
-slice-aggregate-kind-of c = search needs
+slice-aggregate-u8-at : tie.Need-slice-aggregate-u8-at Inv-loop μ-loop
+slice-aggregate-u8-at c = search needs
 
-kind-of-requires : tie.Need-kind-of-requires Inv-loop μ-loop
-kind-of-requires c κs = search needs
+u8-at-requires : tie.Need-u8-at-requires Inv-loop μ-loop
+u8-at-requires c κs = search needs
+
+cast-kind : tie.Need-cast-kind Inv-loop μ-loop
+cast-kind c = search needs
 
 slice-aggregate-part : tie.Need-slice-aggregate-part Inv-loop μ-loop
 slice-aggregate-part c = search needs
@@ -77,8 +80,9 @@ replay-all-spec =
     same-length
     same-length-2
     returns
-    slice-aggregate-kind-of
-    kind-of-requires
+    slice-aggregate-u8-at
+    u8-at-requires
+    cast-kind
     slice-aggregate-part
     part-requires
     replay-requires
