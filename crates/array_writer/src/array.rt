@@ -1,14 +1,10 @@
 // One array, written from a whole byte on.
-ghost use mathlib.Core.Path.{_≡_};
 ghost use mathlib.Core.List.{map};
-ghost use Prim.Native.Nat.{_+_, _*_, _≤_, _<_};
+ghost use Prim.Native.Nat.{_+_, _*_, _≤_};
 ghost use lib.ListN.{length};
-ghost use lib.Seq.{sets};
-ghost use Rattle.bits.specs.Place.{placeOf};
 ghost use Rattle.signed.specs.Signed.{signed};
-ghost use Rattle.gorilla.specs.Places.{putList};
-ghost use Rattle.gorilla.specs.Format.{arrayBits, arrayBytes};
-ghost use Rattle.code_writer.specs.Inner.{codesOf};
+ghost use Rattle.gorilla.specs.Format.{arrayBits};
+ghost use Rattle.array_writer.specs.Inner.{CodesFit, CodesPut, ArrayPut};
 use bits::Place;
 use code_writer::Held;
 use code_writer::inner::RUN;
@@ -27,9 +23,8 @@ use gorilla::inner::advance;
 // The codes of the sequences after the first, put a word at a time. A zero bit is by far the most frequent code, so that it
 // is joined without a look at the rows, and after it a run of them at once.
 fn write_seq_codes(buf: &mut [u8], at: Place, seqs: &[u64]) -> Place
-    requires { ⌜ (1 ≤ length (now seqs)) × (at .bit < 8) × (at .byte * 8 + at .bit + length (codesOf (map signed (now seqs))) ≤ length (now buf) * 8) ⌝ }
-    ensures place { λ r. ⌜ r ≡ placeOf (at .byte * 8 + at .bit + length (codesOf (map signed (now (seqs .entry))))) ⌝ }
-    ensures buf { λ r. ⌜ now (buf .exit) ≡ putList (now (buf .entry)) (at .byte * 8 + at .bit) (codesOf (map signed (now (seqs .entry)))) ⌝ }
+    requires { ⌜ (1 ≤ length (now seqs)) × CodesFit (now buf) at (map signed (now seqs)) ⌝ }
+    ensures { λ r. ⌜ CodesPut (now (buf .entry)) at (map signed (now (seqs .entry))) r (now (buf .exit)) ⌝ }
 {
     let mut t = Track {
         prev: signed::as_signed(seqs[0]),
@@ -71,9 +66,8 @@ fn write_seq_codes(buf: &mut [u8], at: Place, seqs: &[u64]) -> Place
 
 // The codes of the seconds after the first, likewise.
 fn write_sec_codes(buf: &mut [u8], at: Place, secs: &[i64]) -> Place
-    requires { ⌜ (1 ≤ length (now secs)) × (at .bit < 8) × (at .byte * 8 + at .bit + length (codesOf (now secs)) ≤ length (now buf) * 8) ⌝ }
-    ensures place { λ r. ⌜ r ≡ placeOf (at .byte * 8 + at .bit + length (codesOf (now (secs .entry)))) ⌝ }
-    ensures buf { λ r. ⌜ now (buf .exit) ≡ putList (now (buf .entry)) (at .byte * 8 + at .bit) (codesOf (now (secs .entry))) ⌝ }
+    requires { ⌜ (1 ≤ length (now secs)) × CodesFit (now buf) at (now secs) ⌝ }
+    ensures { λ r. ⌜ CodesPut (now (buf .entry)) at (now (secs .entry)) r (now (buf .exit)) ⌝ }
 {
     let first = secs[0];
     let mut t = Track {
@@ -117,8 +111,7 @@ fn write_sec_codes(buf: &mut [u8], at: Place, secs: &[i64]) -> Place
 // The sequences' array from the byte `from` on, and the byte after it.
 pub fn write_seqs(buf: &mut [u8], from: usize, seqs: &[u64]) -> usize
     requires { ⌜ from * 8 + length (arrayBits (map signed (now seqs))) ≤ length (now buf) * 8 ⌝ }
-    ensures end { λ r. ⌜ r ≡ from + length (arrayBytes (map signed (now (seqs .entry)))) ⌝ }
-    ensures buf { λ r. ⌜ now (buf .exit) ≡ sets (now (buf .entry)) from (arrayBytes (map signed (now (seqs .entry)))) ⌝ }
+    ensures { λ r. ⌜ ArrayPut (now (buf .entry)) from (map signed (now (seqs .entry))) r (now (buf .exit)) ⌝ }
 {
     if seqs.len() == 0 {
         return write_none(buf, from);
@@ -130,8 +123,7 @@ pub fn write_seqs(buf: &mut [u8], from: usize, seqs: &[u64]) -> usize
 // The seconds' array from the byte `from` on, and the byte after it.
 pub fn write_secs(buf: &mut [u8], from: usize, secs: &[i64]) -> usize
     requires { ⌜ from * 8 + length (arrayBits (now secs)) ≤ length (now buf) * 8 ⌝ }
-    ensures end { λ r. ⌜ r ≡ from + length (arrayBytes (now (secs .entry))) ⌝ }
-    ensures buf { λ r. ⌜ now (buf .exit) ≡ sets (now (buf .entry)) from (arrayBytes (now (secs .entry))) ⌝ }
+    ensures { λ r. ⌜ ArrayPut (now (buf .entry)) from (now (secs .entry)) r (now (buf .exit)) ⌝ }
 {
     if secs.len() == 0 {
         return write_none(buf, from);

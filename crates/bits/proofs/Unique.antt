@@ -5,7 +5,7 @@ use mathlib.Core.List.{List, [], _∷_}
 use native.Mathlib.Omega.{arith}
 use Rattle.told.proofs.Unique.{given-not-refused, same-gift}
 use Rattle.bits.specs.Read.{Piece, toldRead, readRule}
-use Rattle.bits.specs.Write.{toldWrite, writeRule, written}
+use Rattle.bits.specs.Write.{toldWrite, Writes}
 use Rattle.bits.specs.declared.Place.{Place}
 use Rattle.bits.specs.declared.BitsRead.{BitsRead}
 use Rattle.bits.specs.declared.BitsRead.the-variants as rv
@@ -43,6 +43,5 @@ pub one-read : (s : List ℕ) (at : Place) (n : ℕ) (a b : BitsRead) → toldRe
 one-read s at n a b h k = read-told a b (h ∙ sym k)
 
 -- `write_bits`: its answer, and the buffer
-pub one-write : (s : List ℕ) (at : Place) (v n : ℕ) (a b : BitsWritten) (x y : List ℕ)
-    → (toldWrite a ≡ writeRule s at n) × (x ≡ written s at v n) → (toldWrite b ≡ writeRule s at n) × (y ≡ written s at v n) → (a ≡ b) × (x ≡ y)
+pub one-write : (s : List ℕ) (at : Place) (v n : ℕ) (a b : BitsWritten) (x y : List ℕ) → Writes s at v n a x → Writes s at v n b y → (a ≡ b) × (x ≡ y)
 one-write s at v n a b x y h k = (write-told a b (h .0 ∙ sym (k .0)), h .1 ∙ sym (k .1))

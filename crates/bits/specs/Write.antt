@@ -1,5 +1,6 @@
 -- A write of bits: document 01's numbers for its cases, the rule, and the buffer afterwards.
 use Prim.Native.Nat.{ℕ, _+_, _*_, _/_}
+use mathlib.Core.Path.{_≡_}
 use mathlib.Core.Bool.{cond}
 use mathlib.Core.List.{List, [], _∷_}
 use lib.ListN.{length}
@@ -29,3 +30,7 @@ written s at v n =
     cond (ltb 64 n) s
     (cond (ltb (length s * 8) (posOf (length s) at + n)) s
     (putBits s (posOf (length s) at) v n))
+
+-- `write_bits` of the n low bits of v into s: its answer, and what s is afterwards
+abbrev pub Writes : List ℕ → Place → ℕ → ℕ → BitsWritten → List ℕ → Type 0
+Writes s at v n r now = (toldWrite r ≡ writeRule s at n) × (now ≡ written s at v n)

@@ -1,6 +1,5 @@
 // A write of the 0 to 64 low bits of a value.
-ghost use mathlib.Core.Path.{_≡_};
-ghost use Rattle.bits.specs.Write.{toldWrite, writeRule, written};
+ghost use Rattle.bits.specs.Write.{Writes};
 use crate::BitsWritten;
 use crate::Place;
 use crate::inner::after;
@@ -9,8 +8,7 @@ use crate::inner::settle;
 use raw_bits::inner::put_bits;
 
 pub fn write_bits(buf: &mut [u8], at: Place, value: u64, width: u8) -> BitsWritten
-    ensures answer { λ r. ⌜ toldWrite r ≡ writeRule (now (buf .entry)) at width ⌝ }
-    ensures buf { λ r. ⌜ now (buf .exit) ≡ written (now (buf .entry)) at value width ⌝ }
+    ensures { λ r. ⌜ Writes (now (buf .entry)) at value width r (now (buf .exit)) ⌝ }
 {
     if width > 64 {
         return BitsWritten::Width;

@@ -10,7 +10,7 @@ use Rattle.told.proofs.Unique.{given-not-refused, same-list}
 use Rattle.gorilla.specs.Array.{arrayNo}
 use Rattle.gorilla.specs.declared.Array.{Array}
 use Rattle.gorilla.specs.declared.Array.the-variants.{Sequences, Seconds}
-use Rattle.encoder.specs.Encode.{told, toldLen, toldEncode, lenRule, encodeRule, strictRule, encodedIn}
+use Rattle.encoder.specs.Encode.{told, toldLen, toldEncode, lenRule, encodeRule, strictRule, Tells, Encodes, EncodesStrict}
 use Rattle.encoder.specs.declared.Refusal.{Refusal}
 use Rattle.encoder.specs.declared.Refusal.the-variants as rv
 use Rattle.encoder.specs.declared.EncodedLen.{EncodedLen}
@@ -69,20 +69,14 @@ encode-told (ev.Refused r) (ev.Refused q) h = ap ev.Refused (refusal-told r q (s
 pub one-len : (seqs : List ℕ) (secs : List ℤ) (a b : EncodedLen) → toldLen a ≡ lenRule seqs secs → toldLen b ≡ lenRule seqs secs → a ≡ b
 one-len seqs secs a b h k = len-told a b (h ∙ sym k)
 
--- an answer and a buffer that a rule's are
-module _ (seqs : List ℕ) (secs : List ℤ) (rule : Told ℕ) (out : List ℕ) where
-  one-outcome : (a b : Encoded) (x y : List ℕ) → (toldEncode a ≡ rule) × (x ≡ encodedIn seqs secs rule out)
-      → (toldEncode b ≡ rule) × (y ≡ encodedIn seqs secs rule out) → (a ≡ b) × (x ≡ y)
-  one-outcome a b x y h k = (encode-told a b (h .0 ∙ sym (k .0)), h .1 ∙ sym (k .1))
+-- an answer and a buffer that tell what a rule tells
+one-outcome : (seqs : List ℕ) (secs : List ℤ) (rule : Told ℕ) (out : List ℕ) (a b : Encoded) (x y : List ℕ) → Tells seqs secs rule out a x → Tells seqs secs rule out b y → (a ≡ b) × (x ≡ y)
+one-outcome seqs secs rule out a b x y h k = (encode-told a b (h .0 ∙ sym (k .0)), h .1 ∙ sym (k .1))
 
 -- `encode`: its answer, and the buffer
-pub one-encode : (seqs : List ℕ) (secs : List ℤ) (out : List ℕ) (a b : Encoded) (x y : List ℕ)
-    → (toldEncode a ≡ encodeRule seqs secs (length out)) × (x ≡ encodedIn seqs secs (encodeRule seqs secs (length out)) out)
-    → (toldEncode b ≡ encodeRule seqs secs (length out)) × (y ≡ encodedIn seqs secs (encodeRule seqs secs (length out)) out) → (a ≡ b) × (x ≡ y)
+pub one-encode : (seqs : List ℕ) (secs : List ℤ) (out : List ℕ) (a b : Encoded) (x y : List ℕ) → Encodes seqs secs out a x → Encodes seqs secs out b y → (a ≡ b) × (x ≡ y)
 one-encode seqs secs out = one-outcome seqs secs (encodeRule seqs secs (length out)) out
 
 -- `encode_strict`: its answer, and the buffer
-pub one-strict : (seqs : List ℕ) (secs : List ℤ) (out : List ℕ) (a b : Encoded) (x y : List ℕ)
-    → (toldEncode a ≡ strictRule seqs secs (length out)) × (x ≡ encodedIn seqs secs (strictRule seqs secs (length out)) out)
-    → (toldEncode b ≡ strictRule seqs secs (length out)) × (y ≡ encodedIn seqs secs (strictRule seqs secs (length out)) out) → (a ≡ b) × (x ≡ y)
+pub one-strict : (seqs : List ℕ) (secs : List ℤ) (out : List ℕ) (a b : Encoded) (x y : List ℕ) → EncodesStrict seqs secs out a x → EncodesStrict seqs secs out b y → (a ≡ b) × (x ≡ y)
 one-strict seqs secs out = one-outcome seqs secs (strictRule seqs secs (length out)) out

@@ -1,5 +1,6 @@
 -- Encoding: document 01's numbers for the refusals, the rules of the length and of both encoders, and the buffer afterwards.
 use Prim.Native.Nat.{ℕ}
+use mathlib.Core.Path.{_≡_}
 use mathlib.Core.Bool.{cond, not}
 use mathlib.Core.List.{List, [], _∷_}
 use lib.Dec.{eqb, ltb}
@@ -64,3 +65,15 @@ strictRule seqs secs room = arraysRule seqs secs (wideRule (wideOf seqs secs) (r
 abbrev pub encodedIn : List ℕ → List ℤ → Told ℕ → List ℕ → List ℕ
 encodedIn seqs secs (gave n) out = over (imageBytes seqs secs) out
 encodedIn seqs secs (refused l) out = out
+
+-- an answer r that tells what the rule tells, and what out is after it
+abbrev pub Tells : List ℕ → List ℤ → Told ℕ → List ℕ → Encoded → List ℕ → Type 0
+Tells seqs secs rule out r now = (toldEncode r ≡ rule) × (now ≡ encodedIn seqs secs rule out)
+
+-- `encode` of seqs and secs into out: its answer, and what out is afterwards
+abbrev pub Encodes : List ℕ → List ℤ → List ℕ → Encoded → List ℕ → Type 0
+Encodes seqs secs out r now = Tells seqs secs (encodeRule seqs secs (length out)) out r now
+
+-- `encode_strict`
+abbrev pub EncodesStrict : List ℕ → List ℤ → List ℕ → Encoded → List ℕ → Type 0
+EncodesStrict seqs secs out r now = Tells seqs secs (strictRule seqs secs (length out)) out r now

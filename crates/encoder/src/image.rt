@@ -1,9 +1,6 @@
 // The image, or why there is none.
-ghost use mathlib.Core.Path.{_≡_};
-ghost use Prim.Native.Nat.{_+_, _*_, _≤_};
-ghost use lib.ListN.{length};
-ghost use Rattle.gorilla.specs.Format.{imageBytes};
-ghost use Rattle.encoder.specs.Encode.{toldEncode, roomRule, encodeRule, strictRule, encodedIn};
+ghost use Rattle.encoder.specs.Encode.{Encodes, EncodesStrict};
+ghost use Rattle.encoder.specs.Inner.{Measured, EncodesInRoom};
 use crate::Encoded;
 use crate::EncodedLen;
 use crate::Refusal;
@@ -16,9 +13,8 @@ use strict::inner::first_wide;
 // The image, or refusal 21 before a byte is written. A buffer of `most` bytes holds any image of so many pairs, so that its
 // length need not be counted first.
 fn write_if_room(seqs: &[u64], secs: &[i64], out: &mut [u8], most: usize) -> Encoded
-    requires { ⌜ (length (now seqs) ≡ length (now secs)) × (length (now seqs) ≤ 65536) × (most ≡ length (now seqs) * 9 + 21) ⌝ }
-    ensures answer { λ r. ⌜ toldEncode r ≡ roomRule (length (imageBytes (now (seqs .entry)) (now (secs .entry)))) (length (now (out .entry))) ⌝ }
-    ensures out { λ r. ⌜ now (out .exit) ≡ encodedIn (now (seqs .entry)) (now (secs .entry)) (roomRule (length (imageBytes (now (seqs .entry)) (now (secs .entry)))) (length (now (out .entry)))) (now (out .entry)) ⌝ }
+    requires { ⌜ Measured (now seqs) (now secs) most ⌝ }
+    ensures { λ r. ⌜ EncodesInRoom (now (seqs .entry)) (now (secs .entry)) (now (out .entry)) r (now (out .exit)) ⌝ }
 {
     if most <= out.len() {
         return Encoded::Written(write_image(seqs, secs, out));
@@ -32,8 +28,7 @@ fn write_if_room(seqs: &[u64], secs: &[i64], out: &mut [u8], most: usize) -> Enc
 
 // The Rust's bytes: differences wrap, and one that 32 bits do not hold is cut to them.
 pub fn encode(seqs: &[u64], secs: &[i64], out: &mut [u8]) -> Encoded
-    ensures answer { λ r. ⌜ toldEncode r ≡ encodeRule (now (seqs .entry)) (now (secs .entry)) (length (now (out .entry))) ⌝ }
-    ensures out { λ r. ⌜ now (out .exit) ≡ encodedIn (now (seqs .entry)) (now (secs .entry)) (encodeRule (now (seqs .entry)) (now (secs .entry)) (length (now (out .entry)))) (now (out .entry)) ⌝ }
+    ensures { λ r. ⌜ Encodes (now (seqs .entry)) (now (secs .entry)) (now (out .entry)) r (now (out .exit)) ⌝ }
 {
     match most_bytes(seqs, secs) {
         EncodedLen::Bytes(most) => write_if_room(seqs, secs, out, most),
@@ -43,8 +38,7 @@ pub fn encode(seqs: &[u64], secs: &[i64], out: &mut [u8]) -> Encoded
 
 // The same where 32 bits hold every difference of deltas, so that the image reads back as the arrays.
 pub fn encode_strict(seqs: &[u64], secs: &[i64], out: &mut [u8]) -> Encoded
-    ensures answer { λ r. ⌜ toldEncode r ≡ strictRule (now (seqs .entry)) (now (secs .entry)) (length (now (out .entry))) ⌝ }
-    ensures out { λ r. ⌜ now (out .exit) ≡ encodedIn (now (seqs .entry)) (now (secs .entry)) (strictRule (now (seqs .entry)) (now (secs .entry)) (length (now (out .entry)))) (now (out .entry)) ⌝ }
+    ensures { λ r. ⌜ EncodesStrict (now (seqs .entry)) (now (secs .entry)) (now (out .entry)) r (now (out .exit)) ⌝ }
 {
     match most_bytes(seqs, secs) {
         EncodedLen::Bytes(most) => match first_wide(seqs, secs) {

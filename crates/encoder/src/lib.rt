@@ -1,7 +1,7 @@
 // Encoding: the image of two arrays, into a lent buffer.
 //
 // slatedb's encoder pushes bits into a vector that grows, one at a time. Here codes are gathered into words (crate
-// `writer`), and a buffer that may be too short has the image's length counted before a byte is written, so that a refused
+// `array_writer`), and a buffer that may be too short has the image's length counted before a byte is written, so that a refused
 // call leaves it as it was. No public call has a `requires`: what cannot be encoded is refused by a case of the answer,
 // whose number in document 01 specs/ lists.
 mod image; // image.rt: the image

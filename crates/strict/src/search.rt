@@ -5,7 +5,7 @@ ghost use Prim.Native.Nat.{_≤_};
 ghost use lib.ListN.{length};
 ghost use Rattle.signed.specs.Signed.{signed};
 ghost use Rattle.gorilla.specs.Wide.{wideIn, wideOf};
-ghost use Rattle.strict.specs.Found.{foundWide};
+ghost use Rattle.strict.specs.Inner.{foundWide};
 use crate::FirstWide;
 use crate::calm::calm_secs;
 use crate::calm::calm_seqs;

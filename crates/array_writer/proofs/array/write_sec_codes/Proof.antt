@@ -60,7 +60,7 @@ shared-slice-copy-out-first c = search needs
 loop-holds : tie.Need-loop-holds Inv-loop μ-loop
 loop-holds c =
     let st = c .before .before in
-    (omega arith, hold-first (st .args .secs .now) (st .args .buf .now) (st .args .at) _ (st .pre .0) (st .pre .1) (toZ-ofZ (sfits-of (c .first .given))))
+    (omega arith, hold-first (st .args .secs .now) (st .args .buf .now) (st .args .at) _ (st .pre .0) (st .pre .1 .0) (toZ-ofZ (sfits-of (c .first .given))))
 
 mul-advance : tie.Need-mul-advance Inv-loop μ-loop
 mul-advance c = search needs
@@ -197,7 +197,7 @@ put-requires c κs =
     let al = al-of (ad2-of (co-of (c .before .before))) in (
       al .loop .inv .1 .low,
       al .loop .inv .1 .most,
-      hold-room (al .loop .inv .1) ((st-of al) .pre .2),
+      hold-room (al .loop .inv .1) ((st-of al) .pre .1 .1),
     )
 
 loop-less-5 : tie.Need-loop-less-5 Inv-loop μ-loop
@@ -219,7 +219,7 @@ put-requires-2 c κs =
     let al = c .before .before in (
       al .loop .inv .1 .low,
       al .loop .inv .1 .most,
-      hold-room (al .loop .inv .1) ((st-of al) .pre .2),
+      hold-room (al .loop .inv .1) ((st-of al) .pre .1 .1),
     )
 
 same-length : tie.Need-same-length Inv-loop μ-loop

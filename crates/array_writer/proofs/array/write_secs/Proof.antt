@@ -84,8 +84,7 @@ write-sec-codes-requires c κs =
     let q : ℕ = from-of k * 8 + 96 in
     let l : length (w .write-head .last .0) ≡ length (s-of k) = ap length (w .write-head .ensures .1) ∙ length-putList _ _ _ in (
       some (e-of w),
-      place-bit q (w .write-head .ensures .0),
-      omega (arith, place-pos q (w .write-head .ensures .0), l, k .before .pre, parts-length (xs-of k) (some (e-of w))),
+      (place-bit q (w .write-head .ensures .0), omega (arith, place-pos q (w .write-head .ensures .0), l, k .before .pre, parts-length (xs-of k) (some (e-of w)))),
     )
 
 rounded-requires : tie.Need-rounded-requires

@@ -73,7 +73,7 @@ loop-holds : tie.Need-loop-holds Inv-loop μ-loop
 loop-holds c =
     let st = c .before .before .before .before in
     let s = st .args .seqs .now in
-    (omega arith, length-map s signed, hold-first (map signed s) (st .args .buf .now) (st .args .at) _ (omega (arith, length-map s signed, st .pre .0)) (st .pre .1) (first-is c))
+    (omega arith, length-map s signed, hold-first (map signed s) (st .args .buf .now) (st .args .at) _ (omega (arith, length-map s signed, st .pre .0)) (st .pre .1 .0) (first-is c))
 
 mul-as-signed : tie.Need-mul-as-signed Inv-loop μ-loop
 mul-as-signed c = search needs
@@ -222,7 +222,7 @@ put-requires c κs =
     let al = al-of (ad2-of (co-of (c .before .before))) in (
       al .loop .inv .2 .low,
       al .loop .inv .2 .most,
-      hold-room (al .loop .inv .2) ((st-of al) .pre .2),
+      hold-room (al .loop .inv .2) ((st-of al) .pre .1 .1),
     )
 
 loop-less-5 : tie.Need-loop-less-5 Inv-loop μ-loop
@@ -245,7 +245,7 @@ put-requires-2 c κs =
     let al = c .before .before in (
       al .loop .inv .2 .low,
       al .loop .inv .2 .most,
-      hold-room (al .loop .inv .2) ((st-of al) .pre .2),
+      hold-room (al .loop .inv .2) ((st-of al) .pre .1 .1),
     )
 
 same-length : tie.Need-same-length Inv-loop μ-loop

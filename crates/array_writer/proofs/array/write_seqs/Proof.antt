@@ -98,8 +98,7 @@ write-seq-codes-requires c κs =
     let q : ℕ = from-of k * 8 + 96 in
     let l : length (w .write-head .last .0) ≡ length (s-of k) = ap length (head-is w) ∙ length-putList _ _ _ in (
       omega (arith, some e, as-many k),
-      place-bit q (w .write-head .ensures .0),
-      omega (arith, place-pos q (w .write-head .ensures .0), l, k .before .pre, parts-length (xs-of k) (some e)),
+      (place-bit q (w .write-head .ensures .0), omega (arith, place-pos q (w .write-head .ensures .0), l, k .before .pre, parts-length (xs-of k) (some e))),
     )
 
 rounded-requires : tie.Need-rounded-requires

@@ -8,7 +8,7 @@ use lib.IntN.{ℤ}
 use Rattle.told.specs.Told.{Told}
 use Rattle.gorilla.specs.Format.{imageBytes}
 use Rattle.gorilla.specs.Wide.{Wide, wideOf}
-use Rattle.strict.specs.Found.{foundWide}
+use Rattle.strict.specs.Inner.{foundWide}
 use Rattle.encoder.specs.declared.EncodedLen.the-variants.{Bytes}
 use Rattle.encoder.specs.Encode.{toldLen, encodedIn, arraysRule, wideRule, roomRule}
 use Rattle.encoder.proofs.Rules.{Passed, len-given, len-refused, passed}

@@ -1,7 +1,7 @@
 use borrow.Author.Needs.{needs}
 use mathlib.Core.Path.{refl, sym, ap, _∙_}
 use Rattle.gorilla.specs.Wide.{none, wideIn}
-use Rattle.strict.specs.Found.{foundWide}
+use Rattle.strict.specs.Inner.{foundWide}
 use Rattle.strict.proofs.Wide.{wide-both}
 use Rattle.strict.proofs.search.first_wide.Statement.{statement}
 use Rattle.strict.proofs.search.first_wide.Tie as tie

@@ -1,4 +1,4 @@
--- What a search for a difference of deltas found.
+-- What our own functions promise each other. No public statement cites this file.
 use Rattle.gorilla.specs.Array.{arrayNo}
 use Rattle.gorilla.specs.Wide.{Wide, none, found}
 use Rattle.strict.specs.declared.FirstWide.{FirstWide}
