@@ -8,3 +8,4 @@ pub mod Reading
 pub mod Places
 pub mod RoundTrip
 pub mod Array
+pub mod Inner
