@@ -12,7 +12,8 @@ use lib.Seq.{sets, sets-eq}
 use Rattle.told.specs.Over.{over}
 use Rattle.bits.specs.declared.Place.{Place}
 use Rattle.signed.proofs.Signs.{never}
-use Rattle.gorilla.specs.Parser.{Read, read, refused, andThen, isRead, readOr}
+use Rattle.gorilla.specs.Inner.{isRead}
+use Rattle.gorilla.specs.Parser.{Read, read, refused, andThen, readOr}
 use Rattle.gorilla.specs.Places.{bitsFrom}
 use Rattle.gorilla.specs.Reading.{readCode, readCodes, valuesAfter}
 use Rattle.gorilla.specs.Steps.{followed}

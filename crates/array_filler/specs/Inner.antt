@@ -5,7 +5,8 @@ use mathlib.Core.Bool.{true}
 use mathlib.Core.List.{List, _++_}
 use lib.IntN.{ℤ}
 use lib.ListN.{length, replicate}
-use Rattle.gorilla.specs.Parser.{read, isRead}
+use Rattle.gorilla.specs.Inner.{isRead}
+use Rattle.gorilla.specs.Parser.{read}
 use Rattle.gorilla.specs.Places.{bitsFrom}
 use Rattle.gorilla.specs.Reading.{readCode}
 use Rattle.gorilla.specs.Steps.{followed}

@@ -15,7 +15,8 @@ use Rattle.signed.specs.Signed.{signed}
 use Rattle.bits.specs.declared.Place.{Place}
 use Rattle.bits.proofs.Answers.{pos-le}
 use Rattle.gorilla.specs.BitList.{bitsOf, byteLen}
-use Rattle.gorilla.specs.Parser.{Read, read, refused, takeOff, andThen, shape, isRead, readOr, require}
+use Rattle.gorilla.specs.Inner.{shape, isRead}
+use Rattle.gorilla.specs.Parser.{Read, read, refused, takeOff, andThen, readOr, require}
 use Rattle.gorilla.specs.Places.{bitsFrom}
 use Rattle.gorilla.specs.Reading.{readCode, readCodes, valuesAfter, readValues, readArray, readPart}
 use Rattle.gorilla.proofs.Bridge.{length-bitsOf}

@@ -16,7 +16,8 @@ use Rattle.bits.specs.Place.{posOf, placeOf}
 use Rattle.bits.specs.declared.Place.{Place}
 use Rattle.bits.proofs.Answers.{pos-place}
 use Rattle.gorilla.specs.BitList.{bitsOf}
-use Rattle.gorilla.specs.Parser.{read, refused, takeOff, shape}
+use Rattle.gorilla.specs.Inner.{shape}
+use Rattle.gorilla.specs.Parser.{read, refused, takeOff}
 use Rattle.gorilla.specs.Places.{bitsFrom}
 use Rattle.gorilla.specs.Reading.{countOnes, readCode, readCodes}
 use Rattle.gorilla.proofs.Bridge.{bit-is, length-bitsOf}

@@ -10,7 +10,8 @@ use Rattle.bits.specs.declared.Place.{Place}
 use Rattle.gorilla.specs.Array.{arrayNo}
 use Rattle.gorilla.specs.declared.Array.{Array}
 use Rattle.gorilla.specs.BitList.{bitsOf}
-use Rattle.gorilla.specs.Parser.{Read, read, refused, andThen, _>>_, give, align, shape, isRead, readOr}
+use Rattle.gorilla.specs.Inner.{shape, isRead}
+use Rattle.gorilla.specs.Parser.{Read, read, refused, andThen, _>>_, give, align, readOr}
 use Rattle.gorilla.specs.Places.{bitsFrom}
 use Rattle.gorilla.specs.Reading.{readCodes, readValues, readArray, valuesAfter}
 use Rattle.code_reader.specs.Refusal.{told}

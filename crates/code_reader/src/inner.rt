@@ -2,5 +2,6 @@
 pub use crate::code::CodeRead;
 pub use crate::code::read_code;
 pub use crate::window::Window;
+pub use crate::window::least;
 pub use crate::window::window_at;
 pub use crate::window::zeros;

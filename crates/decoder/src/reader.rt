@@ -1,22 +1,16 @@
 // The public calls. Each looks an image over before it stores or answers anything.
 ghost use mathlib.Core.Path.{_≡_};
-ghost use Prim.Native.Nat.{min};
 ghost use Rattle.decoder.specs.Decode.{Decodes, toldImageLen, imageLenRule, restRule, restFrom, onwards};
 use crate::Decoded;
 use crate::ImageLen;
 use array_filler::inner::fill_secs;
 use array_filler::inner::fill_seqs;
+use code_reader::inner::least;
 use image_reader::inner::ImageScan;
 use image_reader::inner::scan_image;
 
 // The greatest count that 32 bits hold.
 const MOST: usize = 4294967295;
-
-fn least(a: usize, b: usize) -> usize
-    ensures { λ r. ⌜ r ≡ min a b ⌝ }
-{
-    if a < b { a } else { b }
-}
 
 // The pairs of an image, into two lent arrays: the list reader. Places from the count on keep what they held.
 pub fn decode(bytes: &[u8], seqs: &mut [u64], secs: &mut [i64]) -> Decoded

@@ -18,7 +18,8 @@ use Rattle.bits.specs.declared.Place.{Place}
 use Rattle.bits.specs.declared.BitsRead.the-variants as rv
 use Rattle.bits.proofs.Answers.{given, short, pos-le}
 use Rattle.gorilla.specs.BitList.{bitsOf}
-use Rattle.gorilla.specs.Parser.{Read, read, refused, takeOff, andThen, shape}
+use Rattle.gorilla.specs.Inner.{shape}
+use Rattle.gorilla.specs.Parser.{Read, read, refused, takeOff, andThen}
 use Rattle.gorilla.specs.Places.{bitsFrom}
 use Rattle.gorilla.specs.Reading.{cutNumber, countOnes, readCode, readCodes}
 use Rattle.gorilla.proofs.Bridge.{take-at, take-short}

@@ -9,3 +9,4 @@ pub mod Places
 pub mod RoundTrip
 pub mod Ignored
 pub mod Array
+pub mod Inner

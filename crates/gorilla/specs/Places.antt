@@ -1,4 +1,4 @@
--- The bits of a slice from a place on, and bits put into a slice.
+-- The bits of a slice from a place on, and bits put into a slice. No public statement cites this file.
 use Prim.Native.Nat.{ℕ, _+_}
 use mathlib.Core.List.{List, [], _∷_}
 use lib.ListN.{length, drop}

@@ -11,7 +11,7 @@ use mir.Syntax.{w64}
 use mir.Val.{SFits}
 use mir.Facts.{toZ-ofZ}
 use Rattle.told.specs.Over.{over}
-use Rattle.gorilla.specs.Parser.{isRead}
+use Rattle.gorilla.specs.Inner.{isRead}
 use Rattle.gorilla.specs.Reading.{readCodes, valuesAfter}
 use Rattle.array_reader.specs.Inner.{arrayAt}
 use Rattle.array_filler.specs.Inner.{ahead, Stepped}

@@ -13,7 +13,8 @@ use Rattle.bits.specs.Place.{posOf}
 use Rattle.bits.proofs.Answers.{given, too-wide}
 use Rattle.gorilla.specs.Array.{arrayNo}
 use Rattle.gorilla.specs.BitList.{bitsOf}
-use Rattle.gorilla.specs.Parser.{read, takeOff, shape}
+use Rattle.gorilla.specs.Inner.{shape}
+use Rattle.gorilla.specs.Parser.{read, takeOff}
 use Rattle.gorilla.specs.Places.{bitsFrom}
 use Rattle.gorilla.specs.Reading.{readCodes}
 use Rattle.gorilla.proofs.Readers.{took, ended}

@@ -6,7 +6,8 @@ use mathlib.Core.List.{List}
 use lib.IntN.{ℤ}
 use Rattle.bits.specs.declared.Place.{Place}
 use Rattle.gorilla.specs.Array.{arrayNo}
-use Rattle.gorilla.specs.Parser.{Read, read, shape}
+use Rattle.gorilla.specs.Inner.{shape}
+use Rattle.gorilla.specs.Parser.{Read, read}
 use Rattle.gorilla.specs.Places.{bitsFrom}
 use Rattle.gorilla.specs.Reading.{readCode, readCodes}
 use Rattle.gorilla.proofs.Readers.{shape-next, codes-cut}
