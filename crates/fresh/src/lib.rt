@@ -29,7 +29,7 @@ pub fn new() -> SequenceTracker
 pub fn with_config(capacity: u32, interval_secs: u64) -> Made
     ensures { λ r. ⌜ toldMade r ≡ configOf capacity «interval_secs» ⌝ }
 {
-    if limits::bad_settings(capacity, interval_secs) {
+    if limits::inner::bad_settings(capacity, interval_secs) {
         return Made::Refused(Refusal::Settings);
     }
     let table = inner::fresh(capacity, interval_secs, 0, LastRecorded::Never);

@@ -27,7 +27,7 @@ pub(crate) fn sec_outside_at(secs: &[i64], i: usize) -> bool
     requires { ⌜ i < length (now secs) ⌝ }
     ensures { λ r. ⌜ r ≡ secOutside (now (secs .entry)) i ⌝ }
 {
-    limits::out_of_domain(secs[i])
+    limits::inner::out_of_domain(secs[i])
 }
 
 // Whether one of four drops.

@@ -39,7 +39,9 @@ pub fn restore(bytes: &[u8], seqs: &mut [u64], secs: &mut [i64]) -> Restored
     let mut own_seqs = [0u64; 8192];
     let mut own_secs = [0i64; 8192];
     match decoder::decode(bytes, &mut own_seqs, &mut own_secs) {
-        Decoded::Count(n) => { of_made(settling::settle(seqs, secs, &own_seqs, &own_secs, n)) }
+        Decoded::Count(n) => {
+            of_made(settling::inner::settle(seqs, secs, &own_seqs, &own_secs, n))
+        }
         Decoded::Refused(why) => Restored::NotDecoded(why),
     }
 }

@@ -30,8 +30,8 @@ pub fn pairs(seqs: &[u64], secs: &[i64], n: usize) -> Checked
     requires { ⌜ (n ≤ length (now seqs)) × (n ≤ length (now secs)) × (n ≤ 8192) ⌝ }
     ensures { λ r. ⌜ toldCheck r ≡ pairsOf (now (seqs .entry)) (now (secs .entry)) n ⌝ }
 {
-    let seq = order::seq_drop(seqs, n);
-    let sec = order::sec_drop(secs, n);
-    let outside = order::sec_outside(secs, sec);
+    let seq = order::inner::seq_drop(seqs, n);
+    let sec = order::inner::sec_drop(secs, n);
+    let outside = order::inner::sec_outside(secs, sec);
     judge(seq, sec, outside, n)
 }

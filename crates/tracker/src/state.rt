@@ -18,7 +18,7 @@ fn last_wrong(last: LastRecorded, secs: &[i64], n: usize) -> bool
                 return true;
             }
             let x = s.0;
-            if limits::out_of_domain(x) {
+            if limits::inner::out_of_domain(x) {
                 return true;
             }
             x < secs[n - 1]
@@ -29,10 +29,10 @@ fn last_wrong(last: LastRecorded, secs: &[i64], n: usize) -> bool
 pub(crate) fn disagrees(table: SequenceTracker, seqs: &[u64], secs: &[i64]) -> bool
     ensures { λ r. ⌜ r ≡ rules.disagrees table (now (seqs .entry)) (now (secs .entry)) ⌝ }
 {
-    if limits::bad_settings(table.capacity, table.interval_secs) {
+    if limits::inner::bad_settings(table.capacity, table.interval_secs) {
         return true;
     }
-    let r = limits::room(table.capacity);
+    let r = limits::inner::room(table.capacity);
     if seqs.len() < r {
         return true;
     }

@@ -1,6 +1,6 @@
 use borrow.Author.Tests.{eq-eqb, ne-eqb}
-use Rattle.limits.proofs.room.Statement.{statement}
-use Rattle.limits.proofs.room.Tie as tie
+use Rattle.limits.proofs.inner.room.Statement.{statement}
+use Rattle.limits.proofs.inner.room.Tie as tie
 
 returns : tie.Need-returns
 returns c = simp (eq-eqb _ _ (c .if1 .taken))

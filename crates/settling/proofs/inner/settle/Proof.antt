@@ -5,8 +5,8 @@ use Rattle.tracker.specs.Refusal.{toldCheck}
 use Rattle.fresh.specs.Fresh.{freshTable}
 use Rattle.tracker.specs.Table.{pairsOf}
 use Rattle.tracker.specs.declared.LastRecorded.{LastRecorded}
-use Rattle.settling.proofs.settle.Statement.{statement}
-use Rattle.settling.proofs.settle.Tie as tie
+use Rattle.settling.proofs.inner.settle.Statement.{statement}
+use Rattle.settling.proofs.inner.settle.Tie as tie
 
 pairs-requires : tie.Need-pairs-requires
 pairs-requires c κs = search needs

@@ -1,6 +1,6 @@
 use borrow.Author.Tests.{lt-ltb, le-ltb}
-use Rattle.limits.proofs.bad_settings.Statement.{statement}
-use Rattle.limits.proofs.bad_settings.Tie as tie
+use Rattle.limits.proofs.inner.bad_settings.Statement.{statement}
+use Rattle.limits.proofs.inner.bad_settings.Tie as tie
 
 returns : tie.Need-returns
 returns c = rw (lt-ltb _ _ (c .if1 .taken))

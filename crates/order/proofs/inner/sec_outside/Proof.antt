@@ -9,8 +9,8 @@ use borrow.Author.Tests.{not-true}
 use borrow.Author.Count.{below-more, below-none}
 use Rattle.order.proofs.First.{first-hit, first-none}
 use Rattle.order.proofs.Fours.{between}
-use Rattle.order.proofs.sec_outside.Statement.{statement}
-use Rattle.order.proofs.sec_outside.Tie as tie
+use Rattle.order.proofs.inner.sec_outside.Statement.{statement}
+use Rattle.order.proofs.inner.sec_outside.Tie as tie
 
 abbrev Inv-loop : tie.InvT-loop
 Inv-loop secs n i₀ i = (0 ≤ i) × ((j : ℕ) → j < i → secOutside secs j ≡ false)

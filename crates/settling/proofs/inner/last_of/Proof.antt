@@ -6,8 +6,8 @@ use Prim.Native.Nat.{_-_}
 use lib.ListN.{getD}
 use lib.IntN.{pos}
 use Rattle.order.proofs.Order.{round}
-use Rattle.settling.proofs.last_of.Statement.{statement}
-use Rattle.settling.proofs.last_of.Tie as tie
+use Rattle.settling.proofs.inner.last_of.Statement.{statement}
+use Rattle.settling.proofs.inner.last_of.Tie as tie
 
 returns : tie.Need-returns
 returns c = simp (eq-eqb _ _ (c .if1 .taken))

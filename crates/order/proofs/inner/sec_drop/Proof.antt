@@ -8,8 +8,8 @@ use Prim.Native.Nat.{ℕ, _≤_, _<_, _-_}
 use native.Mathlib.Omega.{arith}
 use Rattle.order.specs.Order.{drops}
 use Rattle.order.proofs.First.{first-hit, first-none}
-use Rattle.order.proofs.sec_drop.Statement.{statement}
-use Rattle.order.proofs.sec_drop.Tie as tie
+use Rattle.order.proofs.inner.sec_drop.Statement.{statement}
+use Rattle.order.proofs.inner.sec_drop.Tie as tie
 
 abbrev Inv-loop : tie.InvT-loop
 Inv-loop secs n i₀ i = (1 ≤ i) × ((j : ℕ) → j < i → drops ltZ (pos 0) secs j ≡ false)

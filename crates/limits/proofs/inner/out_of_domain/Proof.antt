@@ -3,8 +3,8 @@ use mathlib.Core.Bool.{true, false}
 use lib.IntN.{negsuc}
 use lib.Signed.{ltZ}
 use mir.Facts.{toZ-ofZ}
-use Rattle.limits.proofs.out_of_domain.Statement.{statement}
-use Rattle.limits.proofs.out_of_domain.Tie as tie
+use Rattle.limits.proofs.inner.out_of_domain.Statement.{statement}
+use Rattle.limits.proofs.inner.out_of_domain.Tie as tie
 
 returns : tie.Need-returns
 returns c =
