@@ -1,18 +1,18 @@
 // One record after the other from standard input.
-use crate::bit_records;
-use crate::body::begins;
-use crate::body::part;
-use crate::body::u8_at;
-use crate::body::u16_at;
-use crate::body::u32_at;
-use crate::image_records;
-use crate::list_records;
 use crate::sizes::is_whole;
-use crate::table_records;
-use crate::table_records::Changed;
-use crate::tally;
-use crate::view_records;
 use tracker::SequenceTracker;
+use vector_bodies::body::begins;
+use vector_bodies::body::part;
+use vector_bodies::body::u8_at;
+use vector_bodies::body::u16_at;
+use vector_bodies::body::u32_at;
+use vector_bodies::tally;
+use vector_codec::bit_records;
+use vector_codec::image_records;
+use vector_codec::list_records;
+use vector_tables::table_records;
+use vector_tables::table_records::Changed;
+use vector_tables::view_records;
 
 // The longest record: kind, length and body.
 const LONGEST: usize = 4099;

@@ -1,10 +1,10 @@
 // The bodies that FORMAT.md allows each kind.
 ghost use Prim.Native.Nat.{_<_};
-use crate::body::u8_at;
-use crate::body::u16_at;
-use crate::body::u32_at;
-use crate::lists::LISTED;
-use crate::lists::MOST;
+use vector_bodies::body::u8_at;
+use vector_bodies::body::u16_at;
+use vector_bodies::body::u32_at;
+use vector_bodies::lists::LISTED;
+use vector_bodies::lists::MOST;
 
 fn are_reads(b: &[u8]) -> bool {
     let size = u8_at(b, 0);

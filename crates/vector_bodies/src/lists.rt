@@ -1,0 +1,164 @@
+// Lists of sequences and of seconds: read from a body, compared with one, and made by a rule.
+ghost use Prim.Native.Nat.{_<_};
+use crate::body::i64_at;
+use crate::body::u32_at;
+use crate::body::u64_at;
+use crate::digest;
+use std::num::wrapping_add_u64;
+use std::num::wrapping_add_usize as after;
+
+// The most pairs that a rule stands for here.
+pub const MOST: usize = 16384;
+
+// The most values that a body lists; longer lists stand as digests.
+pub const LISTED: usize = 64;
+
+// A rule of FORMAT.md, at its present pair.
+pub struct Rule {
+    pub count: usize,
+    pub x: u64,
+    pub seq: u64,
+    pub seq_step: u64,
+    pub seq_mask: u64,
+    pub sec: u64,
+    pub sec_step: u64,
+    pub sec_mask: u64,
+}
+
+fn put_seq(to: &mut [u64], i: usize, seq: u64) {
+    if i < to.len() {
+        to[i] = seq;
+    }
+}
+
+fn put_sec(to: &mut [i64], i: usize, sec: i64) {
+    if i < to.len() {
+        to[i] = sec;
+    }
+}
+
+pub fn seq_of(s: &[u64], i: usize) -> u64 {
+    if i < s.len() {
+        return s[i];
+    }
+    0
+}
+
+// The bits of a second.
+pub fn sec_of(s: &[i64], i: usize) -> u64 {
+    if i < s.len() {
+        return signed::as_unsigned(s[i]);
+    }
+    0
+}
+
+// The n pairs that a body lists: the sequences, then the seconds.
+pub fn read_pairs(b: &[u8], from: usize, n: usize, seqs: &mut [u64], secs: &mut [i64])
+    requires { ⌜ n < 256 ⌝ }
+{
+    let all = 8 * n;
+    let mut at = from;
+    let mut i = 0;
+    while i < n {
+        put_seq(seqs, i, u64_at(b, at));
+        put_sec(secs, i, i64_at(b, after(at, all)));
+        at = after(at, 8);
+        i += 1;
+    }
+}
+
+// Whether the first n pairs are those whose sequences and seconds stand at a place of a body and `all` bytes on.
+fn same_pairs(b: &[u8], from: usize, all: usize, n: usize, seqs: &[u64], secs: &[i64]) -> bool {
+    let mut at = from;
+    let mut i = 0;
+    while i < n {
+        if u64_at(b, at) != seq_of(seqs, i) {
+            return false;
+        }
+        if u64_at(b, after(at, all)) != sec_of(secs, i) {
+            return false;
+        }
+        at = after(at, 8);
+        i += 1;
+    }
+    true
+}
+
+// Whether the first n pairs are those that a body lists or has the digests of.
+pub fn values_so(b: &[u8], at: usize, n: usize, seqs: &[u64], secs: &[i64]) -> bool {
+    if n > LISTED {
+        return digest::pairs_so(b, at, n, seqs, secs);
+    }
+    same_pairs(b, at, 8 * n, n, seqs, secs)
+}
+
+// Whether a number is among n of a body.
+pub fn among(b: &[u8], from: usize, n: usize, v: u64) -> bool {
+    let mut at = from;
+    let mut i = 0;
+    while i < n {
+        if u64_at(b, at) == v {
+            return true;
+        }
+        at = after(at, 8);
+        i += 1;
+    }
+    false
+}
+
+// The first n, or all where there are fewer.
+pub fn first_seqs<'a>(s: &'a [u64], n: usize) -> &'a [u64] {
+    if n > s.len() {
+        return s;
+    }
+    &s[0..n]
+}
+
+pub fn first_secs<'a>(s: &'a [i64], n: usize) -> &'a [i64] {
+    if n > s.len() {
+        return s;
+    }
+    &s[0..n]
+}
+
+// The rule that a body begins with.
+pub fn rule_of(b: &[u8]) -> Rule {
+    Rule {
+        count: u32_at(b, 0),
+        x: u64_at(b, 4),
+        seq: u64_at(b, 12),
+        seq_step: u64_at(b, 20),
+        seq_mask: u64_at(b, 28),
+        sec: u64_at(b, 36),
+        sec_step: u64_at(b, 44),
+        sec_mask: u64_at(b, 52),
+    }
+}
+
+// The rule at its next pair.
+fn next(r: Rule) -> Rule {
+    let x = digest::mix(r.x);
+    Rule {
+        count: r.count,
+        x: x,
+        seq: wrapping_add_u64(r.seq, wrapping_add_u64(r.seq_step, x & r.seq_mask)),
+        seq_step: r.seq_step,
+        seq_mask: r.seq_mask,
+        sec: wrapping_add_u64(r.sec, wrapping_add_u64(r.sec_step, (x >> 32) & r.sec_mask)),
+        sec_step: r.sec_step,
+        sec_mask: r.sec_mask,
+    }
+}
+
+// The pairs that a rule stands for.
+pub fn make(rule: Rule, seqs: &mut [u64], secs: &mut [i64]) {
+    let n = rule.count;
+    let mut r = rule;
+    let mut i = 0;
+    while i < n {
+        put_seq(seqs, i, r.seq);
+        put_sec(secs, i, signed::as_signed(r.sec));
+        r = next(r);
+        i += 1;
+    }
+}

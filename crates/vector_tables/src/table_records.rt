@@ -1,0 +1,196 @@
+// Records that change the standing table: T, O, G, X and R.
+use log::Logged;
+use offers::Offered;
+use restoring::Restored;
+use std::num::wrapping_add_usize as after;
+use tracker::LastRecorded;
+use tracker::Made;
+use tracker::Refusal;
+use tracker::Second;
+use tracker::Seq;
+use tracker::SequenceTracker;
+use vector_bodies::body::i64_at;
+use vector_bodies::body::part;
+use vector_bodies::body::u8_at;
+use vector_bodies::body::u16_at;
+use vector_bodies::body::u32_at;
+use vector_bodies::body::u64_at;
+use vector_bodies::lists;
+use vector_bodies::outcome::code_of;
+
+// The table after a record, and whether the record's answer was met.
+pub struct Changed {
+    pub table: SequenceTracker,
+    pub agreed: bool,
+}
+
+// What came of a list of offers: how many were recorded and skipped, and the number of a refusal, 0 if none.
+struct Ran {
+    table: SequenceTracker,
+    recorded: usize,
+    skipped: usize,
+    refused: usize,
+}
+
+// The number of a refusal that no record expects.
+const UNEXPECTED: usize = 255;
+
+fn number_of(why: Refusal) -> usize {
+    match why {
+        Refusal::Disagrees => 14,
+        Refusal::SequenceDrops(_) => 11,
+        Refusal::SecondDrops(_) => 12,
+        Refusal::SecondOutside(_) => 13,
+        Refusal::Settings => 15,
+        Refusal::OfferedOutside => 16,
+        Refusal::OfferedDrops => 17,
+    }
+}
+
+// A refusal at a position: it has to be that of the record after those that were offered.
+fn stopped_at(at: usize, why: Refusal, offered: usize) -> usize {
+    if at == offered {
+        return number_of(why);
+    }
+    UNEXPECTED
+}
+
+pub fn made(b: &[u8], table: SequenceTracker) -> Changed {
+    match fresh::with_config(u32_at(b, 0) as u32, u64_at(b, 4)) {
+        Made::Table(fresh) => Changed {
+            table: fresh,
+            agreed: true,
+        },
+        Made::Refused(_) => Changed {
+            table: table,
+            agreed: false,
+        },
+    }
+}
+
+pub fn offered(b: &[u8], table: SequenceTracker, seqs: &mut [u64], secs: &mut [i64]) -> Changed {
+    let outcome = u8_at(b, 16);
+    match offers::offer(table, seqs, secs, Seq(u64_at(b, 0)), Second(i64_at(b, 8))) {
+        Offered::Recorded(next) => Changed {
+            table: next,
+            agreed: outcome == 0,
+        },
+        Offered::Skipped => Changed {
+            table: table,
+            agreed: outcome == 1,
+        },
+        Offered::Refused(why) => Changed {
+            table: table,
+            agreed: outcome == number_of(why),
+        },
+    }
+}
+
+// A list's outcome against the counts and the refusal of a record.
+fn ran_so(ran: Ran, recorded: usize, skipped: usize, refused: usize) -> Changed {
+    let table = ran.table;
+    let counts = (ran.recorded == recorded) & (ran.skipped == skipped);
+    Changed {
+        table: table,
+        agreed: counts & (ran.refused == refused),
+    }
+}
+
+fn logged_of(logged: Logged, own: SequenceTracker) -> Ran {
+    match logged {
+        Logged::Done { table, tally } => Ran {
+            table: table,
+            recorded: tally.recorded,
+            skipped: tally.skipped,
+            refused: 0,
+        },
+        Logged::Stopped {
+            at,
+            why,
+            table,
+            tally,
+        } => Ran {
+            table: table,
+            recorded: tally.recorded,
+            skipped: tally.skipped,
+            refused: stopped_at(at, why, after(tally.recorded, tally.skipped)),
+        },
+        _ => Ran {
+            table: own,
+            recorded: 0,
+            skipped: 0,
+            refused: UNEXPECTED,
+        },
+    }
+}
+
+pub fn run(b: &[u8], table: SequenceTracker, seqs: &mut [u64], secs: &mut [i64]) -> Changed {
+    let mut from_seqs = [0u64; lists::MOST];
+    let mut from_secs = [0i64; lists::MOST];
+    let n = u32_at(b, 0);
+    lists::make(lists::rule_of(b), &mut from_seqs, &mut from_secs);
+    let logged = log_pairs::offer_pairs(
+        table,
+        seqs,
+        secs,
+        lists::first_seqs(&from_seqs, n),
+        lists::first_secs(&from_secs, n),
+    );
+    ran_so(
+        logged_of(logged, table),
+        u32_at(b, 60),
+        u32_at(b, 64),
+        u8_at(b, 68),
+    )
+}
+
+// The last of n seconds, if any.
+fn last_of(secs: &[i64], n: usize) -> LastRecorded {
+    if n == 0 {
+        return LastRecorded::Never;
+    }
+    if n > secs.len() {
+        return LastRecorded::Never;
+    }
+    LastRecorded::At(Second(secs[n - 1]))
+}
+
+pub fn extended(b: &[u8], table: SequenceTracker, seqs: &mut [u64], secs: &mut [i64]) -> Changed {
+    let mut from_seqs = [0u64; 8192];
+    let mut from_secs = [0i64; 8192];
+    let n = u8_at(b, 12);
+    lists::read_pairs(b, 13, n, &mut from_seqs, &mut from_secs);
+    let last = last_of(&from_secs, n);
+    let other = SequenceTracker {
+        count: n,
+        capacity: u32_at(b, 0) as u32,
+        interval_secs: u64_at(b, 4),
+        last_recorded_ts: last,
+    };
+    let answer = log_pairs::extend_from(table, seqs, secs, other, &from_seqs, &from_secs);
+    let at = 13 + 16 * n;
+    ran_so(
+        logged_of(answer, table),
+        u16_at(b, at),
+        u16_at(b, after(at, 2)),
+        u8_at(b, after(at, 4)),
+    )
+}
+
+// Whether a table has the settings of a record R, and the record the code of what restore answered.
+fn restored_so(b: &[u8], table: SequenceTracker, code: usize) -> Changed {
+    let capacity = table.capacity as usize == u32_at(b, 2);
+    let settings = capacity & (table.interval_secs == u64_at(b, 6));
+    Changed {
+        table: table,
+        agreed: settings & (code == u16_at(b, 0)),
+    }
+}
+
+pub fn restored(b: &[u8], table: SequenceTracker, seqs: &mut [u64], secs: &mut [i64]) -> Changed {
+    match restoring::restore(part(b, 14, b.len()), seqs, secs) {
+        Restored::Table(next) => restored_so(b, next, 0),
+        Restored::Refused(why) => restored_so(b, table, number_of(why)),
+        Restored::NotDecoded(why) => restored_so(b, table, code_of(why)),
+    }
+}

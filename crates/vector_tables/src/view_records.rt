@@ -1,0 +1,83 @@
+// Records that only look at the standing table: S, H, V, F and K. Each answers whether the table agrees.
+use lookup::FindOption;
+use lookup::FoundSeq;
+use lookup::FoundTs;
+use saving::Saved;
+use tracker::LastRecorded;
+use tracker::Second;
+use tracker::Seq;
+use tracker::SequenceTracker;
+use vector_bodies::body::i64_at;
+use vector_bodies::body::part;
+use vector_bodies::body::u8_at;
+use vector_bodies::body::u16_at;
+use vector_bodies::body::u64_at;
+use vector_bodies::digest::image_so;
+use vector_bodies::lists::among;
+use vector_bodies::lists::values_so;
+
+// Bytes that hold the image of a full table.
+const ROOM: usize = 73760;
+
+fn last_so(b: &[u8], last: LastRecorded) -> bool {
+    match last {
+        LastRecorded::Never => u8_at(b, 2) == 0,
+        LastRecorded::At(s) => {
+            let x = s.0;
+            (u8_at(b, 2) == 1) & (x == i64_at(b, 3))
+        }
+    }
+}
+
+// The count, the last recorded second and the pairs.
+pub fn shown_so(b: &[u8], table: SequenceTracker, seqs: &[u64], secs: &[i64]) -> bool {
+    let n = u16_at(b, 0);
+    let last = table.last_recorded_ts;
+    if table.count != n {
+        return false;
+    }
+    last_so(b, last) & values_so(b, 11, n, seqs, secs)
+}
+
+// The bytes that saving writes, 0 if it refuses.
+fn saved_len(table: SequenceTracker, seqs: &[u64], secs: &[i64], out: &mut [u8]) -> usize {
+    match saving::save(table, seqs, secs, out) {
+        Saved::Written(n) => n,
+        _ => 0,
+    }
+}
+
+pub fn saved_so(b: &[u8], table: SequenceTracker, seqs: &[u64], secs: &[i64]) -> bool {
+    let mut out = [0u8; ROOM];
+    let n = saved_len(table, seqs, secs, &mut out);
+    image_so(b, 0, part(&out, 0, n))
+}
+
+fn way_of(number: usize) -> FindOption {
+    if number == 0 {
+        return FindOption::RoundUp;
+    }
+    FindOption::RoundDown
+}
+
+pub fn second_so(b: &[u8], table: SequenceTracker, seqs: &[u64], secs: &[i64]) -> bool {
+    match lookup::find_ts(table, seqs, secs, Seq(u64_at(b, 0)), way_of(u8_at(b, 8))) {
+        FoundTs::At(s) => {
+            let x = s.0;
+            among(b, 10, u8_at(b, 9), signed::as_unsigned(x))
+        }
+        FoundTs::Nothing => u8_at(b, 9) == 0,
+        FoundTs::Refused(_) => false,
+    }
+}
+
+pub fn seq_so(b: &[u8], table: SequenceTracker, seqs: &[u64], secs: &[i64]) -> bool {
+    match lookup::find_seq(table, seqs, secs, Second(i64_at(b, 0)), way_of(u8_at(b, 8))) {
+        FoundSeq::At(s) => {
+            let x = s.0;
+            among(b, 10, u8_at(b, 9), x)
+        }
+        FoundSeq::Nothing => u8_at(b, 9) == 0,
+        FoundSeq::Refused(_) => false,
+    }
+}
