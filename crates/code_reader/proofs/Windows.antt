@@ -1,18 +1,15 @@
 -- The bits of a window. Assumes nothing.
-use Prim.Native.Nat.{ℕ, zero, suc, _+_, _-_, _*_, _/_, _%_, _^_, _≤_, _<_, min}
-use mathlib.Core.Path.{_≡_, refl, sym, ap, ap₂, _∙_, subst}
-use mathlib.Core.Bool.{Bool, true, false, cond}
-use mathlib.Core.List.{List, [], _∷_}
+use Prim.Native.Nat.{ℕ, zero, suc, _+_, _-_, _*_, _/_, _%_, _^_, _≤_, _<_}
+use mathlib.Core.Path.{_≡_, refl, sym, ap, ap₂, _∙_}
+use mathlib.Core.List.{List, []}
 use native.Mathlib.Nat.{add-zero, not-suc-le-zero, zero-div}
 use native.Mathlib.Omega.{arith}
-use borrow.Author.Tests.{lt-ltb, le-ltb, ltb-true, ltb-false}
+use borrow.Author.Tests.{lt-ltb, le-ltb}
 use lib.Arith.{digits-div, digits-mod}
-use lib.Dec.{ltb}
 use lib.ListN.{length, drop}
 use lib.Pow.{field, shl-shr, shr-shr}
 use Rattle.raw_bits.specs.Bits.{bitAt, bitsAt}
 use Rattle.bits.specs.Place.{posOf}
-use Rattle.bits.specs.declared.Place.{Place}
 use Rattle.raw_bits.proofs.Bits.{bitAt-lt, bitsAt-add, bitsAt-lt}
 use Rattle.gorilla.specs.BitList.{bitsOf}
 use Rattle.gorilla.specs.Parser.{read, refused, takeOff}

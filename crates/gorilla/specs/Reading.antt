@@ -1,9 +1,9 @@
 -- How an array and an image are read, with document 01's refusals where they arise. Array 0 is the sequences, and array 1 the seconds.
-use Prim.Native.Nat.{ℕ, zero, suc, _+_, _*_, _%_}
+use Prim.Native.Nat.{ℕ, zero, suc, _+_, _*_}
 use mathlib.Core.Bool.{Bool}
 use mathlib.Core.List.{List, [], _∷_, map}
 use lib.Dec.{eqb}
-use lib.ListN.{length, getD, drop}
+use lib.ListN.{length, getD}
 use lib.IntN.{ℤ, pos}
 use Rattle.signed.specs.Signed.{signed, pattern, addS}
 use Rattle.gorilla.specs.Rows.{widths, decoded}

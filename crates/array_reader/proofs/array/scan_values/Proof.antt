@@ -9,7 +9,6 @@ use mir.Val.{SFits, toZ, ofZ}
 use mir.Facts.{toZ-ofZ}
 use Rattle.bits.specs.Read.{toldRead}
 use Rattle.bits.specs.declared.Place.{Place}
-use Rattle.bits.specs.Place.{posOf}
 use Rattle.bits.proofs.Answers.{given, too-wide}
 use Rattle.gorilla.specs.Array.{arrayNo}
 use Rattle.gorilla.specs.BitList.{bitsOf}

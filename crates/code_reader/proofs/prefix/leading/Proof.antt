@@ -1,12 +1,12 @@
 use native.Mathlib.Omega.{arith}
 use borrow.Author.Needs.{needs}
 use Prim.Native.Nat.{ℕ, zero, suc, _+_, _-_, _≤_, _<_, min}
-use mathlib.Core.Path.{_≡_, refl, sym, ap, ap₂, _∙_}
+use mathlib.Core.Path.{_≡_, refl, sym, ap, _∙_}
 use mathlib.Core.List.{List, [], _∷_}
 use native.Mathlib.Nat.{add-zero}
 use lib.ListN.{drop}
 use Rattle.gorilla.specs.BitList.{bitsOf}
-use Rattle.gorilla.specs.Parser.{Read, read, refused}
+use Rattle.gorilla.specs.Parser.{read, refused}
 use Rattle.gorilla.specs.Array.{arrayNo}
 use Rattle.gorilla.specs.Reading.{cutNumber, countOnes}
 use Rattle.gorilla.proofs.Readers.{at-zero, at-one, at-end}
