@@ -6,7 +6,7 @@ use Prim.Native.Nat.{ℕ, _≤_, min}
 use native.Mathlib.Omega.{arith}
 use borrow.Author.Tests.{le-leb, le-ltb}
 use lib.Dec.{leb}
-use lib.ListN.{length, drop}
+use lib.ListN.{length, getD, drop}
 use lib.Seq.{take-at}
 use Rattle.told.specs.Told.{gave, refused}
 use Rattle.gorilla.specs.BitList.{bitsOf}
@@ -18,7 +18,7 @@ use Rattle.order.proofs.Bools.{not-given}
 use Rattle.encoder.specs.Encode.{wideRule, roomRule}
 use Rattle.decoder.specs.Decode.{listed}
 use Rattle.offers.specs.Whole.{Table}
-use Rattle.theorems.specs.Run.{Reload, Lent, keptIn, imageFor, strictTo, saveTo, readBack, Refused, RefusedWith, ReadsOthers}
+use Rattle.theorems.specs.Run.{Reload, Lent, keptIn, imageFor, strictTo, saveTo, readBack, ReadsOthers}
 use Rattle.theorems.proofs.Sound.{Sound}
 use Rattle.theorems.proofs.Reload.{kept-fit, seqs-long, at-most, both-pass, save-is, wrote}
 
@@ -46,23 +46,27 @@ module _ (w : Table) (S : Sound w) (l : Reload) (lent : Lent (l .seqs) (l .secs)
       let x = exact (keptIn w) (kept-fit w S) in
       (λ h. x .1 (sym j ∙ h), λ h. j ∙ x .0 h)
 
-  pub exactly : (Refused (strictTo w (l .out)) ↔ ReadsOthers w l) × (Refused (strictTo w (l .out)) → RefusedWith 20 (strictTo w (l .out)))
-  exactly =
+  pub refuses : ((what : List ℕ) × (strictTo w (l .out) ≡ refused what)) ↔ ReadsOthers w l
+  refuses =
       let x = wideOf (keptIn w .seqs) (keptIn w .secs) in (
-        (
-          λ r. (receivedPairs (keptIn w), comes-back, λ h. narrow x (r .0) (sym strict-is ∙ r .1) (exact (keptIn w) (kept-fit w S) .1 h)),
-          λ k. let r = wide x (λ z. k .2 (same-back (k .0) (k .1) .1 z)) in (20 ∷ r .0, strict-is ∙ r .1),
-        ),
-        λ r. let t = wide x (narrow x (r .0) (sym strict-is ∙ r .1)) in (t .0, strict-is ∙ t .1),
+        λ r. (receivedPairs (keptIn w), comes-back, λ h. narrow x (r .0) (sym strict-is ∙ r .1) (exact (keptIn w) (kept-fit w S) .1 h)),
+        λ k. let r = wide x (λ z. k .2 (same-back (k .0) (k .1) .1 z)) in (r .0, strict-is ∙ r .1),
       )
     where
       narrow : (x : Wide) (what : List ℕ) → wideRule x (gave (length (imageFor w))) ≡ refused what → x ≡ none → ⊥
       narrow none what h z = not-given what (length (imageFor w)) (sym h)
       narrow (found a i) what h z = let z : _≡_ {A = ℕ} 0 1 = cc in omega arith
 
-      wide : (x : Wide) → (x ≡ none → ⊥) → RefusedWith 20 (wideRule x (gave (length (imageFor w))))
+      wide : (x : Wide) → (x ≡ none → ⊥) → (what : List ℕ) × (wideRule x (gave (length (imageFor w))) ≡ refused what)
       wide none h = absurd (h refl)
-      wide (found a i) h = (a ∷ i ∷ [], refl)
+      wide (found a i) h = (20 ∷ a ∷ i ∷ [], refl)
+
+  pub with-20 : (what : List ℕ) → strictTo w (l .out) ≡ refused what → getD what 0 0 ≡ 20
+  with-20 what e = go (wideOf (keptIn w .seqs) (keptIn w .secs)) (sym strict-is ∙ e)
+    where
+      go : (x : Wide) → wideRule x (gave (length (imageFor w))) ≡ refused what → getD what 0 0 ≡ 20
+      go none h = absurd (not-given what (length (imageFor w)) (sym h))
+      go (found a i) h = let z : what ≡ 20 ∷ a ∷ i ∷ [] = cc in ap (λ (u : List ℕ). getD u 0 0) z
 
   pub writes : (strictTo w (l .out) ≡ gave (length (imageFor w))) ↔ (readBack w l ≡ read (keptIn w) (bitsOf (l .following)))
   writes = (

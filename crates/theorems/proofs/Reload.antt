@@ -28,7 +28,7 @@ use Rattle.encoder.specs.Encode.{arraysRule, wideRule, roomRule}
 use Rattle.settling.specs.Settle.{lastOf}
 use Rattle.restoring.specs.Restore.{readTable, judged}
 use Rattle.offers.specs.Whole.{Table}
-use Rattle.theorems.specs.Run.{Reload, Lent, keptIn, imageFor, strictTo, stored, restoreTo, restoredTo, reloadedTo}
+use Rattle.theorems.specs.Run.{Reload, Lent, keptIn, imageFor, strictTo, stored, restoreTo, reloadedTo, reloaded, step}
 use Rattle.theorems.proofs.Kept.{inside-fits}
 use Rattle.theorems.proofs.Sound.{Sound, Same, agreed-in, same-self}
 
@@ -145,24 +145,25 @@ module _ (w : Table) (S : Sound w) where
       state-restored : Lent (l .seqs) (l .secs) → restoreTo w l ≡ gave (w .state)
       state-restored (a, b) = rw (le-ltb (length (l .seqs)) 8192 a, le-ltb (length (l .secs)) 8192 b, reads-back) (judged-back (bitsOf (l .following)))
 
-      reload-is : Lent (l .seqs) (l .secs) → restoredTo w l (restoreTo w l) ≡ moved (l .seqs) (l .secs)
+      reload-is : Lent (l .seqs) (l .secs) → reloadedTo w l (gave n) (restoreTo w l) ≡ moved (l .seqs) (l .secs)
       unfolding moved
       reload-is lent = rw (state-restored lent, reads-back)
 
-      pub restores : Lent (l .seqs) (l .secs) → (restoreTo w l ≡ gave (w .state)) × (keptIn (restoredTo w l (restoreTo w l)) ≡ keptIn w)
-      restores lent = (state-restored lent, ap keptIn (reload-is lent) ∙ moved-kept (l .seqs) (l .secs) lent)
+      pub restores : Lent (l .seqs) (l .secs) → (restoreTo w l ≡ gave (w .state)) × (keptIn (step w (reloaded l)) ≡ keptIn w)
+      unfolding step
+      restores lent = (state-restored lent, ap (λ (told : Told ℕ). keptIn (reloadedTo w l told (restoreTo w l))) e ∙ ap keptIn (reload-is lent) ∙ moved-kept (l .seqs) (l .secs) lent)
 
     module _ (lent : Lent (l .seqs) (l .secs)) where
-      pub reload-sound : Sound (reloadedTo w l (strictTo w (l .out)))
+      pub reload-sound : Sound (reloadedTo w l (strictTo w (l .out)) (restoreTo w l))
       reload-sound = go (strictTo w (l .out)) refl
         where
-          go : (told : Told ℕ) → strictTo w (l .out) ≡ told → Sound (reloadedTo w l told)
+          go : (told : Told ℕ) → strictTo w (l .out) ≡ told → Sound (reloadedTo w l told (restoreTo w l))
           go (gave n) e = rw (reload-is n e lent) (moved-sound (l .seqs) (l .secs) lent)
           go (refused what) e = S
 
-      pub reload-same : Same (reloadedTo w l (strictTo w (l .out))) w
+      pub reload-same : Same (reloadedTo w l (strictTo w (l .out)) (restoreTo w l)) w
       reload-same = go (strictTo w (l .out)) refl
         where
-          go : (told : Told ℕ) → strictTo w (l .out) ≡ told → Same (reloadedTo w l told) w
+          go : (told : Told ℕ) → strictTo w (l .out) ≡ told → Same (reloadedTo w l told (restoreTo w l)) w
           go (gave n) e = rw (reload-is n e lent) (moved-same (l .seqs) (l .secs) lent)
           go (refused what) e = same-self w S

@@ -13,7 +13,7 @@ use Rattle.offers.specs.Whole.{Table}
 use Rattle.theorems.specs.Run.{new, Event, offered, reloaded, step, ranTo, answers, offersIn, Proper, Unharmed, Demand}
 use Rattle.theorems.proofs.Sound.{Sound, Same, offered-sound, offered-told, offered-same, new-sound, same-self, same-trans}
 use Rattle.theorems.proofs.Reload.{restores, reload-sound, reload-same}
-use Rattle.theorems.proofs.Exact.{exactly, writes}
+use Rattle.theorems.proofs.Exact.{refuses, with-20, writes}
 use Rattle.theorems.proofs.Logged.{same-kept, log-same, pairs-same, extend-same, extend-by-same}
 
 -- what a run keeps up, of the table w that it has led to and the table v of the offers alone
@@ -64,7 +64,7 @@ unharmed w v K =
       by-strict = λ out. rw (← M .state) (rw (K .sound .good, there, a .same-seqs, a .same-secs) (refl, refl));
       by-save = λ out. rw (← M .state) (rw (K .sound .good, there, a .same-seqs, a .same-secs) (refl, refl));
       restores = λ l n h e. restores w (K .sound) l n e h;
-      exact = λ l room lent. let e = exactly w (K .sound) l lent room in (e .0, e .1, writes w (K .sound) l lent room);
+      exact = λ l room lent. (refuses w (K .sound) l lent room, with-20 w (K .sound) l lent room, writes w (K .sound) l lent room);
     }
 
 pub demand : Demand

@@ -3,7 +3,7 @@ use Prim.Native.Nat.{ℕ, _≤_, _<_, _^_}
 use mathlib.Core.Path.{_≡_}
 use mathlib.Core.Logic.{_↔_}
 use mathlib.Core.List.{List, [], _∷_, _++_}
-use lib.ListN.{length, take}
+use lib.ListN.{length, take, getD}
 use lib.IntN.{ℤ}
 use Rattle.told.specs.Told.{Told, gave, refused}
 use Rattle.gorilla.specs.BitList.{bitsOf}
@@ -67,15 +67,11 @@ stored save w l = written (save w (l .out)) (savedTo w (save w (l .out)) (l .out
 abbrev pub restoreTo : Table → Reload → Told SequenceTracker
 restoreTo w l = restoreOf (stored strictTo w l) (l .seqs) (l .secs)
 
--- the table after a restore that tells this; a refused one leaves none, and a new one is begun
-abbrev pub restoredTo : Table → Reload → Told SequenceTracker → Table
-restoredTo w l (gave t) = whole t (seqsAfter (stored strictTo w l) (gave t) (l .seqs)) (secsAfter (stored strictTo w l) (gave t) (l .secs))
-restoredTo w l (refused what) = new (l .seqs) (l .secs)
-
--- the table after a strict save that tells this, and a restore; a refused save leaves the table standing
-abbrev pub reloadedTo : Table → Reload → Told ℕ → Table
-reloadedTo w l (gave n) = restoredTo w l (restoreTo w l)
-reloadedTo w l (refused what) = w
+-- the table after a strict save and a restore that tell this: a refused save leaves it standing; a refused restore leaves none, and a new one is begun
+abbrev pub reloadedTo : Table → Reload → Told ℕ → Told SequenceTracker → Table
+reloadedTo w l (refused what) told = w
+reloadedTo w l (gave n) (refused what) = new (l .seqs) (l .secs)
+reloadedTo w l (gave n) (gave t) = whole t (seqsAfter (stored strictTo w l) (gave t) (l .seqs)) (secsAfter (stored strictTo w l) (gave t) (l .secs))
 
 -- ---- a run
 
@@ -86,7 +82,7 @@ pub data Event : Type 0 where
 -- the table after an event
 unfoldable pub step : Table → Event → Table
 step w (offered seq ts) = offeredTo w seq ts (offerTo w seq ts)
-step w (reloaded l) = reloadedTo w l (strictTo w (l .out))
+step w (reloaded l) = reloadedTo w l (strictTo w (l .out)) (restoreTo w l)
 
 -- the table after the events
 unfoldable pub ranTo : Table → List Event → Table
@@ -132,13 +128,6 @@ SameLog w l v m = (l .answer ≡ m .answer) × (keptIn (loggedTo w l) ≡ keptIn
 
 -- ---- when a strict save is refused
 
--- refused, with any number; and with this one
-abbrev pub Refused : Told ℕ → Type 0
-Refused told = (what : List ℕ) × (told ≡ refused what)
-
-abbrev pub RefusedWith : ℕ → Told ℕ → Type 0
-RefusedWith number told = (more : List ℕ) × (told ≡ refused (number ∷ more))
-
 -- the image of the kept pairs
 abbrev pub imageFor : Table → List ℕ
 imageFor w = imageBytes (keptIn w .seqs) (keptIn w .secs)
@@ -173,12 +162,12 @@ pub record Unharmed (w v : Table) : Type 0 where
   pub by-save : (out : List ℕ) → (saveTo w out ≡ saveTo v out) × (savedTo w (saveTo w out) out ≡ savedTo v (saveTo v out) out)
   -- restore never refuses what a strict save wrote: it gives back the state and the pairs
   pub restores : (l : Reload) (n : ℕ) → Lent (l .seqs) (l .secs) → strictTo w (l .out) ≡ gave n
-      → (restoreTo w l ≡ gave (w .state)) × (keptIn (restoredTo w l (restoreTo w l)) ≡ keptIn w)
+      → (restoreTo w l ≡ gave (w .state)) × (keptIn (step w (reloaded l)) ≡ keptIn w)
   -- with room for the image a strict save is refused at all exactly where what the Rust's save wrote reads back as other pairs, and then
   -- with 20; and it writes the image exactly where that reads back as the kept ones
   pub exact : (l : Reload) → length (imageFor w) ≤ length (l .out) → Lent (l .seqs) (l .secs)
-      → (Refused (strictTo w (l .out)) ↔ ReadsOthers w l)
-      × (Refused (strictTo w (l .out)) → RefusedWith 20 (strictTo w (l .out)))
+      → (((what : List ℕ) × (strictTo w (l .out) ≡ refused what)) ↔ ReadsOthers w l)
+      × ((what : List ℕ) → strictTo w (l .out) ≡ refused what → getD what 0 0 ≡ 20)
       × ((strictTo w (l .out) ≡ gave (length (imageFor w))) ↔ (readBack w l ≡ read (keptIn w) (bitsOf (l .following))))
 
 -- from a new table in any two such arrays, by any events: each offer is told what it is told without the saves and restores, and the table is unharmed
