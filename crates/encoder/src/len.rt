@@ -21,7 +21,8 @@ pub fn most_bytes(seqs: &[u64], secs: &[i64]) -> EncodedLen
     if seqs.len() > MOST {
         return EncodedLen::Refused(Refusal::TooMany);
     }
-    EncodedLen::Bytes(seqs.len() * 9 + 21)
+    let most = seqs.len() * 9 + 21;
+    EncodedLen::Bytes(most)
 }
 
 pub fn encoded_len(seqs: &[u64], secs: &[i64]) -> EncodedLen

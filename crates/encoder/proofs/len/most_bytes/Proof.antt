@@ -10,14 +10,14 @@ returns c = differ (c .before .args .seqs .now) (c .before .args .secs .now) _ (
 returns-2 : tie.Need-returns-2
 returns-2 c = let st = c .before .before in many (st .args .seqs .now) (st .args .secs .now) _ (c .before .if1 .left) (c .if2 .taken)
 
-mul-t3 : tie.Need-mul-t3
-mul-t3 c = search needs
+mul-most : tie.Need-mul-most
+mul-most c = search needs
 
-add-t8 : tie.Need-add-t8
-add-t8 c = search needs
+add-most : tie.Need-add-most
+add-most c = search needs
 
 returns-3 : tie.Need-returns-3
 returns-3 c = let st = c .before .before in sym (passed (st .args .seqs .now) (st .args .secs .now) _ (c .before .if1 .left) (c .if2 .left))
 
 pub most-bytes-spec : {M : Type 1} → statement M
-most-bytes-spec = tie.close (tie.spec returns returns-2 mul-t3 add-t8 returns-3)
+most-bytes-spec = tie.close (tie.spec returns returns-2 mul-most add-most returns-3)
