@@ -20,7 +20,7 @@ use Rattle.decoder.specs.declared.Decoded.{Decoded}
 use Rattle.decoder.specs.declared.Decoded.the-variants as d
 use Rattle.text.specs.Ascii.{ascii}
 use Rattle.text.specs.Inner.{Put}
-use Rattle.text.specs.Text.{wordLine}
+use Rattle.text.specs.Text.{wordLine, Stands}
 use Rattle.report.specs.Lines.{lines, entriesText, refusedText}
 use Rattle.report.specs.Listing.{numberOf, readText, listingOf}
 use Rattle.report.specs.Inner.{answerText, Held}
@@ -48,7 +48,7 @@ unfolding entriesText
 entries-length seqs secs n = omega (arith, length-append (wordLine (ascii "entries ") n) (lines seqs secs n), word-length (ascii "entries ") n, lines-length seqs secs n)
 
 -- ---- a whole text, put at the start
-pub whole : {out text new : List ℕ} {p : ℕ} → Put out 0 text new p → length text ≤ length out → (p ≡ length text) × (new ≡ over text out)
+pub whole : {out text new : List ℕ} {p : ℕ} → Put out 0 text new p → length text ≤ length out → Stands text out p new
 whole {out} {text} {new} {p} f h =
     let e : 0 + length text ≡ length text = omega arith in
     (omega (arith, f .ends), f .bytes ∙ sets-eq text out 0 (omega arith) ∙ ap (λ (k : ℕ). text ++ drop k out) e)

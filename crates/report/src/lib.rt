@@ -1,8 +1,6 @@
 // The text that the program `listing` prints for the bytes that it reads: the pairs of an image, or the
 // number by which they are refused.
-ghost use mathlib.Core.Path.{_≡_};
-ghost use lib.ListN.{length};
-ghost use Rattle.told.specs.Over.{over};
+ghost use Rattle.text.specs.Text.{Stands};
 ghost use Rattle.report.specs.Listing.{listingOf};
 ghost use Rattle.report.specs.Inner.{answerText, Held};
 
@@ -26,8 +24,7 @@ pub const TEXT_ROOM: usize = 65600;
 // The text of what the list reader answered, with the arrays that it filled.
 fn put_answer(out: &mut [u8; TEXT_ROOM], answer: Decoded, seqs: &[u64], secs: &[i64]) -> usize
     requires { ⌜ Held answer (now seqs) (now secs) ⌝ }
-    ensures answer { λ r. ⌜ r ≡ length (answerText answer (now (seqs .entry)) (now (secs .entry))) ⌝ }
-    ensures out { λ r. ⌜ now (out .exit) ≡ over (answerText answer (now (seqs .entry)) (now (secs .entry))) (now (out .entry)) ⌝ }
+    ensures { λ r. ⌜ Stands (answerText answer (now (seqs .entry)) (now (secs .entry))) (now (out .entry)) r (now (out .exit)) ⌝ }
 {
     match answer {
         Decoded::Count(count) => put_entries(out, seqs, secs, count),
@@ -37,8 +34,7 @@ fn put_answer(out: &mut [u8; TEXT_ROOM], answer: Decoded, seqs: &[u64], secs: &[
 
 // Puts the text for the bytes of `input` at the start of `out`, and answers its length.
 pub fn listing(input: &[u8], out: &mut [u8; TEXT_ROOM]) -> usize
-    ensures answer { λ r. ⌜ r ≡ length (listingOf (now (input .entry))) ⌝ }
-    ensures out { λ r. ⌜ now (out .exit) ≡ over (listingOf (now (input .entry))) (now (out .entry)) ⌝ }
+    ensures { λ r. ⌜ Stands (listingOf (now (input .entry))) (now (out .entry)) r (now (out .exit)) ⌝ }
 {
     if input.len() > MOST_INPUT {
         return put_refused(out, 22);

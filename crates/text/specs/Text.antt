@@ -1,10 +1,13 @@
--- Numbers as text, as bytes (document 01, "The listing").
+-- Numbers as text, as bytes (document 01, "The listing"), and a text in the buffer that is printed.
 use Prim.Native.Nat.{ℕ, zero, suc, _+_, _/_, _%_}
 use Prim.Native.Char.{code}
+use mathlib.Core.Path.{_≡_}
 use mathlib.Core.Bool.{cond}
 use mathlib.Core.List.{List, [], _∷_, _++_}
 use lib.Dec.{ltb}
 use lib.IntN.{ℤ, pos, negsuc}
+use lib.ListN.{length}
+use Rattle.told.specs.Over.{over}
 use Rattle.text.specs.Ascii.{ascii}
 
 -- a digit below 10
@@ -28,3 +31,7 @@ signedDecimal (negsuc n) = ascii "-" ++ decimal (suc n)
 -- a line of a word, with its space, and a number
 abbrev pub wordLine : List ℕ → ℕ → List ℕ
 wordLine word n = word ++ decimal n ++ ascii "\n"
+
+-- a text stands at the start of what the buffer `old` has become, `new`, whose rest is as before; `size` is its length
+abbrev pub Stands : List ℕ → List ℕ → ℕ → List ℕ → Type 0
+Stands text old size new = (size ≡ length text) × (new ≡ over text old)
