@@ -7,7 +7,7 @@ ghost use Rattle.encoder.specs.Encode as encoding;
 ghost use Rattle.decoder.specs.Decode as decoding;
 ghost use Rattle.tracker.specs.Refusal.{toldCheck};
 ghost use Rattle.lookup.specs.Found.{toldTs, toldSeq};
-ghost use Rattle.store.specs.Save.{toldSave};
+ghost use Rattle.saving.specs.Save.{toldSave};
 ghost use Rattle.answers.specs.Answer.{given, ofCount, ofSigned, ofPiece, ofPlace, ofCheck, ofTs, ofSeq};
 use crate::Answer;
 use crate::refusals;
@@ -19,9 +19,9 @@ use encoder::Encoded;
 use encoder::EncodedLen;
 use lookup::FoundSeq;
 use lookup::FoundTs;
+use saving::Saved;
 use signed::Extended;
 use signed::as_unsigned;
-use store::Saved;
 use tracker::Checked;
 
 fn given(a: u64, b: u64, c: u64) -> Answer

@@ -8,11 +8,11 @@ use native.Mathlib.Omega.{arith}
 use lib.ListN.{length, getD, length-append}
 use lib.Seq.{getD-append-seam}
 use Rattle.told.specs.Told.{Told, gave, refused}
-use Rattle.tracker.specs.Domain.{outside}
+use Rattle.limits.specs.Domain.{outside}
 use Rattle.tracker.specs.Table.{checkOf}
 use Rattle.tracker.specs.declared.TrackedSeq.{TrackedSeq}
 use Rattle.tracker.specs.declared.SequenceTracker.{SequenceTracker}
-use Rattle.tracker.proofs.Bools.{not-given}
+use Rattle.order.proofs.Bools.{not-given}
 use Rattle.offers.specs.Offer.{Outcome, recorded, skipped, tooSoon, lowSeq}
 use Rattle.offers.proofs.Preserved.{stays-good}
 use Rattle.log.specs.Log.{Log, done, stopped, Left, Standing, offered, standAfter, unlessRefused, runOf}

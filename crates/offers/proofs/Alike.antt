@@ -7,7 +7,7 @@ use borrow.Author.Tests.{le-ltb}
 use lib.IntN.{ℤ}
 use lib.ListN.{length, take}
 use Rattle.told.specs.Told.{Told, gave, refused}
-use Rattle.tracker.specs.Settings.{roomOf}
+use Rattle.limits.specs.Settings.{roomOf}
 use Rattle.tracker.specs.Table.{kept, checkOf}
 use Rattle.tracker.specs.declared.Seq.{Seq}
 use Rattle.tracker.specs.declared.Second.{Second}

@@ -9,8 +9,8 @@ use lib.IntN.{ℤ, pos, negsuc, subℕ, _-ℤ_}
 use lib.Signed.{mag}
 use mir.Syntax.{w64}
 use mir.Val.{SFits}
-use Rattle.tracker.specs.Domain.{outside}
-use Rattle.tracker.proofs.Bools.{neither}
+use Rattle.limits.specs.Domain.{outside}
+use Rattle.order.proofs.Bools.{neither}
 
 mag-cond : (b : Bool) (m n k : ℕ) → m ≤ k → n ≤ k → mag (cond b (negsuc m) (pos n)) ≤ k
 mag-cond true m n k h h′ = h

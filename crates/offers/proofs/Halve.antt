@@ -8,7 +8,7 @@ use native.Mathlib.Omega.{arith}
 use lib.ListN.{length, getD, take, drop, set, length-set, length-append, length-drop, List·getD-append}
 use lib.Seq.{ext-getD, getD-set-same, getD-set-other, getD-drop, getD-append-add, set-split}
 use Rattle.told.specs.Over.{over}
-use Rattle.tracker.proofs.Bools.{below-or}
+use Rattle.order.proofs.Bools.{below-or}
 use Rattle.offers.specs.Keep.{evens, appended, thinned}
 use Rattle.offers.proofs.Thinned.{getD-evens, length-evens, appended-length, appended-old, appended-new, thinned-not, thinned-evens}
 

@@ -8,12 +8,12 @@ use borrow.Author.Tests.{le-ltb, lt-ltb, ne-eqb}
 use lib.IntN.{ℤ, pos}
 use lib.ListN.{length, getD}
 use Rattle.told.specs.Told.{gave}
-use Rattle.tracker.specs.Settings.{roomOf}
+use Rattle.limits.specs.Settings.{roomOf}
 use Rattle.tracker.specs.Table.{kept}
 use Rattle.tracker.specs.declared.Seq.{Seq}
 use Rattle.tracker.specs.declared.Second.{Second}
 use Rattle.tracker.specs.declared.SequenceTracker.{SequenceTracker}
-use Rattle.tracker.proofs.Bools.{below-or}
+use Rattle.order.proofs.Bools.{below-or}
 use Rattle.tracker.proofs.Good.{Agreed, fine, count-seqs, count-secs}
 use Rattle.offers.specs.Keep.{appended, thinned, countWith}
 use Rattle.offers.specs.Offer.{recorded, offerOf, after}

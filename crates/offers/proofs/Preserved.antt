@@ -14,18 +14,19 @@ use lib.Seq.{take-at}
 use lib.Signed.{ltZ}
 use Rattle.told.specs.Told.{Told, gave, refused}
 use Rattle.told.specs.Over.{over}
-use Rattle.tracker.specs.Domain.{outside}
+use Rattle.limits.specs.Domain.{outside}
 use Rattle.tracker.specs.Refusal.{ifGood}
-use Rattle.tracker.specs.Settings.{roomOf}
-use Rattle.tracker.specs.Table.{kept, secOutside, lastMisplaced, lastBelow, checkOf}
+use Rattle.limits.specs.Settings.{roomOf}
+use Rattle.tracker.specs.Table.{kept, lastMisplaced, lastBelow, checkOf}
+use Rattle.order.specs.Order.{secOutside}
 use Rattle.tracker.specs.declared.Seq.{Seq}
 use Rattle.tracker.specs.declared.Second.{Second}
 use Rattle.tracker.specs.declared.SequenceTracker.{SequenceTracker}
 use Rattle.tracker.specs.declared.LastRecorded.{LastRecorded}
 use Rattle.tracker.specs.declared.LastRecorded.the-variants.{Never, At}
-use Rattle.tracker.proofs.Bools.{other, true-false, below-or, not-given, passed}
+use Rattle.order.proofs.Bools.{other, true-false, below-or, not-given, passed}
 use Rattle.tracker.proofs.Good.{Fine, fine, fine-again, room-is, count-seqs, count-secs}
-use Rattle.tracker.proofs.Order.{nat-order, int-order, further}
+use Rattle.order.proofs.Order.{nat-order, int-order, further}
 use Rattle.offers.specs.Keep.{keptWith, countWith}
 use Rattle.offers.specs.Offer.{Outcome, recorded, skipped, tooSoon, lowSeq, stateWith, offerOf, after, stateAfter}
 use Rattle.offers.proofs.Thinned.{appended-old, appended-new, thinned-length}

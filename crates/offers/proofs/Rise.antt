@@ -9,9 +9,9 @@ use native.Mathlib.Omega.{arith}
 use borrow.Author.Tests.{le-ltb, lt-ltb}
 use lib.ListN.{length, getD, drop, length-append, length-drop, List·getD-append}
 use Rattle.told.specs.Over.{over}
-use Rattle.tracker.specs.Table.{drops}
-use Rattle.tracker.proofs.Bools.{below-or}
-use Rattle.tracker.proofs.Order.{Order, rises, itself}
+use Rattle.order.specs.Order.{drops}
+use Rattle.order.proofs.Bools.{below-or}
+use Rattle.order.proofs.Order.{Order, rises, itself}
 use Rattle.offers.specs.Keep.{evens, appended, thinned, countWith}
 use Rattle.offers.proofs.Thinned.{getD-evens, length-evens, appended-length, appended-old, appended-new, thinned-not, thinned-evens}
 

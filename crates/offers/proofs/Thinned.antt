@@ -7,7 +7,7 @@ use native.Mathlib.Omega.{arith}
 use borrow.Author.Tests.{le-ltb, lt-ltb}
 use lib.ListN.{length, getD, take, length-append, List·getD-append}
 use lib.Seq.{getD-take, getD-at, length-take-le}
-use Rattle.tracker.proofs.Bools.{below-or}
+use Rattle.order.proofs.Bools.{below-or}
 use Rattle.offers.specs.Keep.{evens, appended, thinned, countWith}
 
 module _ {A : Type 0} where

@@ -8,7 +8,7 @@ use lib.ListN.{length, getD}
 use lib.Signed.{ltZ}
 use Rattle.told.specs.Told.{Told, gave, refused}
 use Rattle.told.specs.Over.{over}
-use Rattle.tracker.specs.Domain.{outside}
+use Rattle.limits.specs.Domain.{outside}
 use Rattle.tracker.specs.Refusal.{told, ifGood}
 use Rattle.tracker.specs.Table.{checkOf}
 use Rattle.tracker.specs.declared.Seq.{Seq}

@@ -10,7 +10,6 @@ use tracker::Refusal;
 use tracker::Second;
 use tracker::Seq;
 use tracker::SequenceTracker;
-use tracker::inner as checks;
 
 // A recorded pair leaves a good table good, so a list of offers checks its table once.
 pub fn offer_good(
@@ -27,7 +26,7 @@ pub fn offer_good(
 {
     let q = seq.0;
     let s = ts.0;
-    if checks::out_of_domain(s) {
+    if limits::inner::out_of_domain(s) {
         return Offered::Refused(Refusal::OfferedOutside);
     }
     let last = table.last_recorded_ts;

@@ -3,7 +3,7 @@ ghost use mathlib.Core.Path.{_≡_};
 ghost use mathlib.Core.Bool.{false};
 ghost use Prim.Native.Nat.{_≤_, _<_};
 ghost use lib.ListN.{length};
-ghost use Rattle.tracker.specs.Domain.{outside};
+ghost use Rattle.limits.specs.Domain.{outside};
 ghost use Rattle.tracker.specs.Table.{lastOutside};
 ghost use Rattle.offers.specs.Offer.{tooSoon, lowSeq, stateWith};
 use tracker::LastRecorded;

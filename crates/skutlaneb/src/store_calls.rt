@@ -1,8 +1,8 @@
 // A table saved as an image, and restored from one.
 ghost use mathlib.Core.Path.{_≡_};
 ghost use lib.ListN.{length};
-ghost use Rattle.store.specs.Save.{saveOf, saveStrictOf, savedIn};
-ghost use Rattle.store.specs.Restore.{restoreOf, seqsAfter, secsAfter};
+ghost use Rattle.saving.specs.Save.{saveOf, saveStrictOf, savedIn};
+ghost use Rattle.restoring.specs.Restore.{restoreOf, seqsAfter, secsAfter};
 ghost use Rattle.answers.specs.Answer.{ofCount};
 ghost use Rattle.table_answers.specs.Table.{tableOf, ofTable};
 use answers::Answer;
@@ -18,7 +18,7 @@ pub extern "C" fn skut_save(state: State, seqs: &[u64], secs: &[i64], out: &mut 
     ensures out { λ r. ⌜ now (out .exit) ≡ savedIn (tableOf state) (now (seqs .entry)) (now (secs .entry)) (saveOf (tableOf state) (now (seqs .entry)) (now (secs .entry)) (length (now (out .entry)))) (now (out .entry)) ⌝ }
 {
     let table = tables::table_of(state);
-    inner::of_saved(store::save(table, seqs, secs, out))
+    inner::of_saved(saving::save(table, seqs, secs, out))
 }
 
 // Gives the bytes written.
@@ -33,7 +33,7 @@ pub extern "C" fn skut_save_strict(
     ensures out { λ r. ⌜ now (out .exit) ≡ savedIn (tableOf state) (now (seqs .entry)) (now (secs .entry)) (saveStrictOf (tableOf state) (now (seqs .entry)) (now (secs .entry)) (length (now (out .entry)))) (now (out .entry)) ⌝ }
 {
     let table = tables::table_of(state);
-    inner::of_saved(store::save_strict(table, seqs, secs, out))
+    inner::of_saved(saving::save_strict(table, seqs, secs, out))
 }
 
 // Needs 130 KB of stack: two arrays of 8,192 are its own.
@@ -43,5 +43,5 @@ pub extern "C" fn skut_restore(bytes: &[u8], seqs: &mut [u64], secs: &mut [i64])
     ensures seqs { λ r. ⌜ now (seqs .exit) ≡ seqsAfter (now (bytes .entry)) (restoreOf (now (bytes .entry)) (now (seqs .entry)) (now (secs .entry))) (now (seqs .entry)) ⌝ }
     ensures secs { λ r. ⌜ now (secs .exit) ≡ secsAfter (now (bytes .entry)) (restoreOf (now (bytes .entry)) (now (seqs .entry)) (now (secs .entry))) (now (secs .entry)) ⌝ }
 {
-    tables::of_restored(store::restore(bytes, seqs, secs))
+    tables::of_restored(restoring::restore(bytes, seqs, secs))
 }

@@ -1,6 +1,6 @@
 // A table: settings, the check, offers, lookups. A second is a signed number, a sequence an unsigned one.
 ghost use mathlib.Core.Path.{_≡_};
-ghost use Rattle.tracker.specs.Settings.{newTable, configOf};
+ghost use Rattle.fresh.specs.Fresh.{newTable, configOf};
 ghost use Rattle.tracker.specs.Table.{checkOf};
 ghost use Rattle.lookup.specs.Find.{findTs, findSeq};
 ghost use Rattle.offers.specs.Offer.{offerOf, after};
@@ -21,7 +21,7 @@ use tracker::Seq;
 pub extern "C" fn skut_new() -> TableAnswer
     ensures { λ r. ⌜ r ≡ stands newTable 0 0 ⌝ }
 {
-    tables::stands(tracker::new(), 0, 0)
+    tables::stands(fresh::new(), 0, 0)
 }
 
 // An empty table with the settings named.
@@ -29,7 +29,7 @@ pub extern "C" fn skut_new() -> TableAnswer
 pub extern "C" fn skut_with_config(capacity: u32, interval_secs: u64) -> TableAnswer
     ensures { λ r. ⌜ r ≡ ofTable (configOf capacity «interval_secs») ⌝ }
 {
-    tables::of_made(tracker::with_config(capacity, interval_secs))
+    tables::of_made(fresh::with_config(capacity, interval_secs))
 }
 
 // What every call on a table checks first. Gives nothing: the number is 0 where the table is good.

@@ -4,14 +4,14 @@ ghost use Rattle.tracker.specs.Refusal.{toldMade};
 ghost use Rattle.offers.specs.Offer.{toldOffer};
 ghost use Rattle.log.specs.Log.{toldLog};
 ghost use Rattle.log.specs.Extend.{toldExtended};
-ghost use Rattle.store.specs.Restore.{toldRestore};
+ghost use Rattle.restoring.specs.Restore.{toldRestore};
 ghost use Rattle.table_answers.specs.Table.{ofTable, ofOffer, ofLog};
 use crate::TableAnswer;
 use crate::refusals;
 use crate::states;
 use log::Logged;
 use offers::Offered;
-use store::Restored;
+use restoring::Restored;
 use tracker::Made;
 use tracker::SequenceTracker;
 

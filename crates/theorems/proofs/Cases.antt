@@ -1,6 +1,6 @@
 -- The table of cases, by computation.
 use mathlib.Core.Path.{refl}
-use Rattle.tracker.specs.First.{firstFrom, lastOr}
+use Rattle.order.specs.First.{firstFrom, lastOr}
 use Rattle.gorilla.specs.BitList.{natBits, bitsOf, natFrom, bytesOf, packed}
 use Rattle.gorilla.specs.Format.{codeBits, codesBits, valuesBits, arrayBits, leBytes, imageBytes}
 use Rattle.gorilla.specs.Parser.{takeOff}

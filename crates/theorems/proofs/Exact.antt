@@ -14,7 +14,7 @@ use Rattle.gorilla.specs.Parser.{read}
 use Rattle.gorilla.specs.Reading.{Pairs}
 use Rattle.gorilla.specs.Wide.{Wide, none, found, wideOf}
 use Rattle.gorilla.proofs.RoundTrip.{receivedPairs, reads, exact}
-use Rattle.tracker.proofs.Bools.{not-given}
+use Rattle.order.proofs.Bools.{not-given}
 use Rattle.encoder.specs.Encode.{wideRule, roomRule}
 use Rattle.decoder.specs.Decode.{listed}
 use Rattle.theorems.specs.Run.{Table, Reload, Lent, keptIn, imageFor, saveTo, encodeTo, readBack, RefusedWith, ReadsOthers}

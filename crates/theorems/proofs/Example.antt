@@ -4,7 +4,7 @@ use mathlib.Core.List.{[], _∷_}
 use Prim.Native.Nat.{ℕ}
 use lib.IntN.{pos}
 use lib.ListN.{take, replicate}
-use Rattle.tracker.specs.First.{firstFrom}
+use Rattle.order.specs.First.{firstFrom}
 use Rattle.tracker.specs.declared.LastRecorded.the-variants.{At}
 use Rattle.gorilla.specs.BitList.{natBits, bitsOf, natFrom, bytesOf, packed}
 use Rattle.gorilla.specs.Format.{codeBits, codesBits, valuesBits, arrayBits, leBytes, imageBytes}

@@ -12,7 +12,7 @@ use lib.ListN.{length, getD}
 use mir.Syntax.{w64}
 use mir.Val.{SFits}
 use Rattle.told.specs.Over.{over}
-use Rattle.tracker.specs.Domain.{outside}
+use Rattle.limits.specs.Domain.{outside}
 use Rattle.offers.specs.Keep.{appended, thinned, countWith}
 use Rattle.offers.proofs.Difference.{inside-mag}
 use Rattle.offers.proofs.Thinned.{appended-old, appended-new}

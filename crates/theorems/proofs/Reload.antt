@@ -17,14 +17,16 @@ use Rattle.gorilla.specs.Parser.{read}
 use Rattle.gorilla.specs.RoundTrip.{Fit}
 use Rattle.gorilla.specs.Wide.{Wide, none, found, wideOf}
 use Rattle.gorilla.proofs.RoundTrip.{strict-reads-back}
-use Rattle.tracker.specs.Settings.{roomOf, freshTable, defaultCapacity, defaultIntervalSecs}
+use Rattle.limits.specs.Settings.{roomOf}
+use Rattle.fresh.specs.Fresh.{freshTable, defaultCapacity, defaultIntervalSecs}
 use Rattle.tracker.specs.Table.{pairsOf}
-use Rattle.tracker.proofs.Bools.{not-given}
+use Rattle.order.proofs.Bools.{not-given}
 use Rattle.tracker.proofs.Good.{fine, sorted-again, few, count-seqs, count-secs}
 use Rattle.tracker.proofs.Kept.{kept-at, pairs-kept, check-kept}
 use Rattle.offers.proofs.Rise.{over-length}
 use Rattle.encoder.specs.Encode.{arraysRule, wideRule, roomRule}
-use Rattle.store.specs.Restore.{lastOf, readTable, judged}
+use Rattle.settling.specs.Settle.{lastOf}
+use Rattle.restoring.specs.Restore.{readTable, judged}
 use Rattle.theorems.specs.Run.{Table, Reload, Lent, keptIn, imageFor, saveTo, stored, restoreTo, restoredTo, reloadedTo}
 use Rattle.theorems.proofs.Kept.{inside-fits}
 use Rattle.theorems.proofs.Sound.{Sound, Same, agreed-in, same-self}
@@ -117,7 +119,7 @@ module _ (w : Table) (S : Sound w) where
   both-pass else = rw (seqs-long, secs-long, eq-eqb (w .state .count) (w .state .count) refl, le-ltb 65536 (w .state .count) (omega (arith, at-most)))
 
   pub save-is : (out : List ℕ) → saveTo w out ≡ wideRule (wideOf (keptIn w .seqs) (keptIn w .secs)) (roomRule (length (imageFor w)) (length out))
-  save-is out = rw (S .good) (both-pass _)
+  save-is out = rw (S .good)
 
   -- a save that wrote found no wide difference, and wrote the image
   pub wrote : (out : List ℕ) (n : ℕ) → saveTo w out ≡ gave n → (wideOf (keptIn w .seqs) (keptIn w .secs) ≡ none) × (length (imageFor w) ≡ n)

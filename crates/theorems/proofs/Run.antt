@@ -4,7 +4,7 @@ use mathlib.Core.List.{List, [], _∷_}
 use borrow.Author.Tests.{le-ltb}
 use lib.ListN.{length}
 use Rattle.told.specs.Told.{Told, gave}
-use Rattle.tracker.specs.Settings.{roomOf}
+use Rattle.limits.specs.Settings.{roomOf}
 use Rattle.tracker.specs.Table.{checkOf}
 use Rattle.lookup.specs.Laws.{SameKept}
 use Rattle.lookup.proofs.Laws.{kept-ts, kept-seq}

@@ -7,8 +7,8 @@ use borrow.Author.Tests.{le-ltb, ne-eqb}
 use lib.IntN.{ℤ}
 use lib.ListN.{length, getD}
 use Rattle.told.specs.Told.{Told, gave, refused}
-use Rattle.tracker.specs.First.{firstFrom}
-use Rattle.tracker.specs.Settings.{defaultCapacity, defaultIntervalSecs}
+use Rattle.order.specs.First.{firstFrom}
+use Rattle.fresh.specs.Fresh.{defaultCapacity, defaultIntervalSecs}
 use Rattle.tracker.specs.Table.{checkOf}
 use Rattle.tracker.specs.declared.Seq.{Seq}
 use Rattle.tracker.specs.declared.Second.{Second}
@@ -18,7 +18,7 @@ use Rattle.offers.specs.Offer.{Outcome, recorded, skipped}
 use Rattle.offers.proofs.Preserved.{taken, stays-good, recorded-count}
 use Rattle.offers.proofs.Alike.{Alike, alike-told, alike-after}
 use Rattle.offers.proofs.Newest.{newest-sec}
-use Rattle.store.specs.Restore.{lastOf}
+use Rattle.settling.specs.Settle.{lastOf}
 use Rattle.theorems.specs.Run.{Table, new, keptIn, offerTo, offeredTo, Lent}
 use Rattle.theorems.proofs.Kept.{kept-all, some-kept}
 

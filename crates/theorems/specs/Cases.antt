@@ -9,7 +9,8 @@ use Rattle.told.specs.Over.{over}
 use Rattle.signed.specs.Signed.{signed}
 use Rattle.gorilla.specs.Format.{codeBits, codesBits}
 use Rattle.gorilla.specs.Steps.{advanced}
-use Rattle.tracker.specs.Settings.{roomOf, emptyTable}
+use Rattle.limits.specs.Settings.{roomOf}
+use Rattle.fresh.specs.Fresh.{emptyTable}
 use Rattle.tracker.specs.declared.Second.{Second}
 use Rattle.tracker.specs.declared.TrackedSeq.{TrackedSeq}
 use Rattle.tracker.specs.declared.LastRecorded.the-variants.{At}

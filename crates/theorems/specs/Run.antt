@@ -10,7 +10,7 @@ use Rattle.gorilla.specs.BitList.{bitsOf}
 use Rattle.gorilla.specs.Format.{imageBytes}
 use Rattle.gorilla.specs.Parser.{Read, read}
 use Rattle.gorilla.specs.Reading.{Pairs}
-use Rattle.tracker.specs.Settings.{newTable}
+use Rattle.fresh.specs.Fresh.{newTable}
 use Rattle.tracker.specs.Table.{kept, checkOf}
 use Rattle.tracker.specs.declared.Seq.{Seq}
 use Rattle.tracker.specs.declared.Second.{Second}
@@ -20,8 +20,8 @@ use Rattle.lookup.specs.declared.FindOption.{FindOption}
 use Rattle.offers.specs.Offer.{Outcome, offerOf, after, stateAfter}
 use Rattle.encoder.specs.Encode.{encodeRule, encodedIn}
 use Rattle.decoder.specs.Decode.{listed}
-use Rattle.store.specs.Save.{saveStrictOf, savedIn}
-use Rattle.store.specs.Restore.{restoreOf, seqsAfter, secsAfter}
+use Rattle.saving.specs.Save.{saveStrictOf, savedIn}
+use Rattle.restoring.specs.Restore.{restoreOf, seqsAfter, secsAfter}
 
 -- a table: its state and its two lent arrays, whole
 pub record Table : Type 0 where

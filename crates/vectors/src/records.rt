@@ -141,7 +141,7 @@ fn replay_all(
     tally: &mut [u64; tally::PLACES],
 ) -> usize {
     let mut record = [0u8; LONGEST];
-    let mut table = tracker::new();
+    let mut table = fresh::new();
     let mut left = n;
     while left > 0 {
         let end = read_record(&mut record);

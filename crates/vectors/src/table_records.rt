@@ -10,7 +10,7 @@ use crate::told;
 use log::Extended;
 use log::Logged;
 use offers::Offered;
-use store::Restored;
+use restoring::Restored;
 use tracker::LastRecorded;
 use tracker::Made;
 use tracker::Refusal;
@@ -63,7 +63,7 @@ pub fn leaves(table: SequenceTracker, agreed: bool) -> Changed {
 }
 
 pub fn made(b: &[u8], table: SequenceTracker) -> Changed {
-    match tracker::with_config(u32_at(b, 0) as u32, u64_at(b, 4)) {
+    match fresh::with_config(u32_at(b, 0) as u32, u64_at(b, 4)) {
         Made::Table(fresh) => leaves(fresh, true),
         Made::Refused(_) => leaves(table, false),
     }
@@ -227,7 +227,7 @@ fn refusal_so(b: &[u8], table: SequenceTracker, why: decoder::Refusal) -> Change
 }
 
 pub fn restored(b: &[u8], table: SequenceTracker, seqs: &mut [u64], secs: &mut [i64]) -> Changed {
-    match store::restore(part(b, 14, b.len()), seqs, secs) {
+    match restoring::restore(part(b, 14, b.len()), seqs, secs) {
         Restored::Table(next) => table_so(b, next),
         Restored::Refused(why) => leaves(table, u8_at(b, 0) == number_of(why)),
         Restored::NotDecoded(why) => refusal_so(b, table, why),

@@ -11,7 +11,7 @@ use crate::lists::values_so;
 use lookup::FindOption;
 use lookup::FoundSeq;
 use lookup::FoundTs;
-use store::Saved;
+use saving::Saved;
 use tracker::LastRecorded;
 use tracker::Second;
 use tracker::Seq;
@@ -51,7 +51,7 @@ pub fn shown_so(b: &[u8], table: SequenceTracker, seqs: &[u64], secs: &[i64]) ->
 
 // The bytes that saving writes, 0 if it refuses.
 fn saved_len(table: SequenceTracker, seqs: &[u64], secs: &[i64], out: &mut [u8]) -> usize {
-    match store::save(table, seqs, secs, out) {
+    match saving::save(table, seqs, secs, out) {
         Saved::Written(n) => n,
         Saved::Refused(_) => 0,
         Saved::NotEncoded(_) => 0,

@@ -4,7 +4,7 @@ use mathlib.Core.Bool.{true, false}
 use native.Mathlib.Omega.{arith}
 use mir.Syntax.{w64}
 use mir.Val.{toZ, ofZ}
-use Rattle.tracker.specs.Domain.{outside}
+use Rattle.limits.specs.Domain.{outside}
 use Rattle.tracker.proofs.Good.{Agreed, fine, count-seqs, count-secs, capacity-seqs, capacity-secs}
 use Rattle.offers.specs.Offer.{tooSoon, lowSeq}
 use Rattle.offers.proofs.Thinned.{thinned-length}

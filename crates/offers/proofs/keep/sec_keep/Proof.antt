@@ -3,7 +3,7 @@ use native.Mathlib.Omega.{arith}
 use lib.IntN.{pos}
 use lib.ListN.{getD, length-set}
 use mir.Facts.{toZ-ofZ}
-use Rattle.tracker.proofs.Order.{round}
+use Rattle.order.proofs.Order.{round}
 use Rattle.offers.proofs.Halve.{Halving, halving-start, halving-more, added, ended-even, ended-odd}
 use Rattle.offers.proofs.keep.sec_keep.Statement.{statement}
 use Rattle.offers.proofs.keep.sec_keep.Tie as tie

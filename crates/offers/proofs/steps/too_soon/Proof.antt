@@ -4,7 +4,7 @@ use mathlib.Core.Bool.{false}
 use mir.Facts.{toZ-ofZ, toZ-pos}
 use mir.Syntax.{w64}
 use mir.Val.{toZ, ofZ}
-use Rattle.tracker.specs.Domain.{outside}
+use Rattle.limits.specs.Domain.{outside}
 use Rattle.tracker.specs.Table.{lastOutside}
 use Rattle.offers.proofs.Difference.{diff-fits}
 use Rattle.offers.proofs.steps.too_soon.Statement.{statement}

@@ -15,7 +15,7 @@ same-length-2 : tie.Need-same-length-2
 same-length-2 c = search needs
 
 returns : tie.Need-returns
-returns c = (rw (c .of-restored .ensures, c .before .before .before .before .restore .ensures .0), (rw (c .before .before .before .before .restore .ensures .1 .0, c .before .before .before .before .restore .ensures .0), rw (c .before .before .before .before .restore .ensures .1 .1, c .before .before .before .before .restore .ensures .0)))
+returns c = (rw (c .of-restored .ensures, c .before .before .before .before .restore .ensures .0), (rw (c .before .before .before .before .restore .ensures .1, c .before .before .before .before .restore .ensures .0), rw (c .before .before .before .before .restore .ensures .2, c .before .before .before .before .restore .ensures .0)))
 
 pub skut-restore-spec : {M : Type 1} → statement M
 skut-restore-spec =
