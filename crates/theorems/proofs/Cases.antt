@@ -11,7 +11,8 @@ use Rattle.offers.specs.Keep.{evens}
 use Rattle.log.specs.Log.{runOf}
 use Rattle.encoder.specs.Encode.{arraysRule, roomRule}
 use Rattle.decoder.specs.Decode.{listed}
-use Rattle.report.specs.Text.{digits, decimal, signedDecimal, line, lines, entriesText, refusedText}
+use Rattle.text.specs.Text.{digits, decimal, signedDecimal}
+use Rattle.report.specs.Lines.{line, lines, entriesText, refusedText}
 use Rattle.report.specs.Listing.{listingOf}
 use Rattle.theorems.specs.Run.{step, ranTo}
 use Rattle.theorems.specs.Cases.{Cases}

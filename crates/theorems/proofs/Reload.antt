@@ -120,7 +120,7 @@ module _ (w : Table) (S : Sound w) where
   both-pass else = rw (seqs-long, secs-long, eq-eqb (w .state .count) (w .state .count) refl, le-ltb 65536 (w .state .count) (omega (arith, at-most)))
 
   pub save-is : (out : List ℕ) → strictTo w out ≡ wideRule (wideOf (keptIn w .seqs) (keptIn w .secs)) (roomRule (length (imageFor w)) (length out))
-  save-is out = rw (S .good) (both-pass _)
+  save-is out = rw (S .good)
 
   -- a save that wrote found no wide difference, and wrote the image
   pub wrote : (out : List ℕ) (n : ℕ) → strictTo w out ≡ gave n → (wideOf (keptIn w .seqs) (keptIn w .secs) ≡ none) × (length (imageFor w) ≡ n)

@@ -25,7 +25,7 @@ use Rattle.log.specs.Log.{Log, stopped, logOf}
 use Rattle.encoder.specs.Encode.{lenRule, encodeRule, strictRule, encodedIn}
 use Rattle.decoder.specs.Decode.{decodeRule, seqsAfter, secsAfter}
 use Rattle.offers.specs.Whole.{Table}
-use Rattle.report.specs.Ascii.{ascii}
+use Rattle.text.specs.Ascii.{ascii}
 use Rattle.report.specs.Listing.{listingOf}
 use Rattle.theorems.specs.Run.{offered, keptIn, ranTo}
 
