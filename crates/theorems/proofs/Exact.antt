@@ -20,12 +20,12 @@ use Rattle.decoder.specs.Decode.{listed}
 use Rattle.offers.specs.Whole.{Table}
 use Rattle.theorems.specs.Run.{Reload, Lent, keptIn, imageFor, strictTo, saveTo, readBack, ReadsOthers}
 use Rattle.theorems.proofs.Sound.{Sound}
-use Rattle.theorems.proofs.Reload.{kept-fit, seqs-long, at-most, both-pass, save-is, wrote}
+use Rattle.theorems.proofs.Reload.{kept-fit, seqs-long, at-most, save-is, wrote}
 
 module _ (w : Table) (S : Sound w) (l : Reload) (lent : Lent (l .seqs) (l .secs)) (room : length (imageFor w) ≤ length (l .out)) where
   plain-is : saveTo w (l .out) ≡ gave (length (imageFor w))
   unfolding roomRule
-  plain-is = rw (S .good) (both-pass w S _ ∙ rw (le-ltb (length (l .out)) (length (imageFor w)) room))
+  plain-is = rw (S .good) (rw (le-ltb (length (l .out)) (length (imageFor w)) room))
 
   strict-is : strictTo w (l .out) ≡ wideRule (wideOf (keptIn w .seqs) (keptIn w .secs)) (gave (length (imageFor w)))
   unfolding roomRule

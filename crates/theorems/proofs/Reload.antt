@@ -24,7 +24,7 @@ use Rattle.order.proofs.Bools.{not-given}
 use Rattle.tracker.proofs.Good.{fine, sorted-again, few, count-seqs, count-secs}
 use Rattle.tracker.proofs.Kept.{kept-at, pairs-kept, check-kept}
 use Rattle.offers.proofs.Rise.{over-length}
-use Rattle.encoder.specs.Encode.{arraysRule, wideRule, roomRule}
+use Rattle.encoder.specs.Encode.{wideRule, roomRule}
 use Rattle.settling.specs.Settle.{lastOf}
 use Rattle.restoring.specs.Restore.{readTable, judged}
 use Rattle.offers.specs.Whole.{Table}
@@ -113,11 +113,6 @@ module _ (w : Table) (S : Sound w) where
         }
 
   -- ---- a strict save
-
-  -- the kept pairs of a good table are as many seconds as sequences, and not too many
-  pub both-pass : (else : Told ℕ) → arraysRule (keptIn w .seqs) (keptIn w .secs) else ≡ else
-  unfolding arraysRule
-  both-pass else = rw (seqs-long, secs-long, eq-eqb (w .state .count) (w .state .count) refl, le-ltb 65536 (w .state .count) (omega (arith, at-most)))
 
   pub save-is : (out : List ℕ) → strictTo w out ≡ wideRule (wideOf (keptIn w .seqs) (keptIn w .secs)) (roomRule (length (imageFor w)) (length out))
   save-is out = rw (S .good)
