@@ -1,6 +1,5 @@
 -- Document 01's cases P1 to P12, those that it only runs, and those that its rules name, as one table: what goes in, and what must come out.
 use Prim.Native.Nat.{ℕ}
-use Prim.Native.String.{String}
 use mathlib.Core.Path.{_≡_}
 use mathlib.Core.List.{List, [], _∷_, _++_, map}
 use lib.ListN.{length, take, replicate}
@@ -72,11 +71,7 @@ fifth x y =
 abbrev pub begun : ℕ → List ℕ
 begun count = 0x01 ∷ count ∷ 0 ∷ 0 ∷ 0 ∷ 0 ∷ 0 ∷ 0 ∷ count ∷ []
 
--- ---- what must come out: the kinds of cases
-
--- `sign_extend` of this many low bits
-abbrev pub ExtendsTo : ℕ → ℕ → ℤ → Type 0
-ExtendsTo value bits d = extendRule value bits ≡ gave d
+-- ---- what must come out: kinds of cases that are more than one equation, or stand often
 
 -- `encoded_len` of these pairs
 abbrev pub LengthIs : List TrackedSeq → ℕ → Type 0
@@ -91,21 +86,6 @@ WritesImage l bytes =
 -- `encode_strict` of these pairs
 abbrev pub StrictTells : List TrackedSeq → Told ℕ → Type 0
 StrictTells l told = strictRule (pairsIn l .seqs) (pairsIn l .secs) (length buffer) ≡ told
-
--- the difference of deltas at the second of two sequences
-abbrev pub DifferenceIs : ℕ → ℕ → ℤ → Type 0
-DifferenceIs p q d = subS (subS (signed q) (signed p)) (pos 0) ≡ d
-
--- the code of a difference of deltas, and how many bits it takes
-abbrev pub CodeIs : ℤ → List ℕ → Type 0
-CodeIs d bits = codeBits d ≡ bits
-
-abbrev pub CodeTakes : ℤ → ℕ → Type 0
-CodeTakes d n = length (codeBits d) ≡ n
-
--- the reader takes these bits, all of them, as the code of this difference
-abbrev pub ReadAs : List ℕ → ℤ → Type 0
-ReadAs bits d = readCode 0 1 bits ≡ read d []
 
 -- `decode` of these bytes into two arrays of so many places
 abbrev pub DecodeTells : ℕ → List ℕ → Told ℕ → Type 0
@@ -126,43 +106,35 @@ Keeps w l last = (keptIn w ≡ pairsIn l) × (w .state .«last_recorded_ts» ≡
 abbrev pub Skips : Table → TrackedSeq → Type 0
 Skips w r = offerTo w (r .seq) (r .ts) ≡ gave skipped
 
--- a list of offers
-abbrev pub LogTells : Table → List TrackedSeq → Told Log → Type 0
-LogTells w l told = logOf w l .answer ≡ told
-
 -- `find_ts` of a sequence
 abbrev pub Finds : Table → ℕ → FindOption → Partner Second → Type 0
 Finds w seq opt found = findTs (w .state) (w .seqs) (w .secs) (record { 0 = seq }) opt ≡ gave found
-
--- the program `listing`
-abbrev pub Prints : List ℕ → String → Type 0
-Prints input text = listingOf input ≡ ascii text
 
 -- ---- the table, each case under document 01's words
 
 pub record Cases : Type 0 where
   -- Extension of 64 in 7 bits is -64; of 63 it is 63
-  pub extension : ExtendsTo 64 7 (negℤ (pos 64)) × ExtendsTo 63 7 (pos 63)
+  pub extension : (extendRule 64 7 ≡ gave (negℤ (pos 64))) × (extendRule 63 7 ≡ gave (pos 63))
   -- empty image: 01 and twelve 00, length 13
   pub P1 : WritesImage [] (0x01 ∷ replicate 12 0x00) × LengthIs [] 13
   -- sequence 5, second 60: length 29
   pub P2 : LengthIs (pair 5 60 ∷ []) 29
   -- d = 63: 9 bits; 64: 12
-  pub P3 : CodeTakes (pos 63) 9 × CodeTakes (pos 64) 12
+  pub P3 : (length (codeBits (pos 63)) ≡ 9) × (length (codeBits (pos 64)) ≡ 12)
   -- d = -64: 110 111000000; -256: 16 bits; -2048: 36
-  pub P4 : CodeIs (negℤ (pos 64)) (1 ∷ 1 ∷ 0 ∷ 1 ∷ 1 ∷ 1 ∷ 0 ∷ 0 ∷ 0 ∷ 0 ∷ 0 ∷ 0 ∷ []) × CodeTakes (negℤ (pos 256)) 16 × CodeTakes (negℤ (pos 2048)) 36
+  pub P4 : (codeBits (negℤ (pos 64)) ≡ 1 ∷ 1 ∷ 0 ∷ 1 ∷ 1 ∷ 1 ∷ 0 ∷ 0 ∷ 0 ∷ 0 ∷ 0 ∷ 0 ∷ []) × (length (codeBits (negℤ (pos 256))) ≡ 16) × (length (codeBits (negℤ (pos 2048))) ≡ 36)
   -- the reader accepts longer codes than the writer makes (0 in 9 bits), and -64 in 7 bits
-  pub accepted : ReadAs (1 ∷ 1 ∷ 0 ∷ replicate 9 0) (pos 0) × ReadAs (1 ∷ 0 ∷ 1 ∷ replicate 6 0) (negℤ (pos 64))
+  pub accepted : (readCode 0 1 (1 ∷ 1 ∷ 0 ∷ replicate 9 0) ≡ read (pos 0) []) × (readCode 0 1 (1 ∷ 0 ∷ 1 ∷ replicate 6 0) ≡ read (negℤ (pos 64)) [])
   -- (100,0),(164,60): 01 02000000 00000002 0000000000000064 C400 00000002 0000000000000000 9E00
   pub P5 : WritesImage (pair 100 0 ∷ pair 164 60 ∷ []) (fifth 0x00 0x00)
   -- the listing of P5
-  pub listing : Prints (fifth 0x00 0x00) "entries 2\n0 100 0\n1 164 60\n"
+  pub listing : listingOf (fifth 0x00 0x00) ≡ ascii "entries 2\n0 100 0\n1 164 60\n"
   -- padding values are ignored
   pub padding : DecodesTo 3 (fifth 0x0F 0x7F) (pair 100 0 ∷ pair 164 60 ∷ [])
   -- sequences 0, 1, seconds 0, 2147483648: strict 20, seconds (array 1), index 1; 2147483647 is written (36 bytes)
   pub P6 : StrictTells (pair 0 0 ∷ pair 1 2147483648 ∷ []) (refused (20 ∷ 1 ∷ 1 ∷ [])) × StrictTells (pair 0 0 ∷ pair 1 2147483647 ∷ []) (gave 36)
   -- sequences 0, 18446744073709551615, seconds 0, 0: d = -1, 9 bits, written strictly (32 bytes)
-  pub P7 : DifferenceIs 0 18446744073709551615 (negℤ (pos 1)) × CodeTakes (negℤ (pos 1)) 9 × StrictTells (pair 0 0 ∷ pair 18446744073709551615 0 ∷ []) (gave 32)
+  pub P7 : (subS (subS (signed 18446744073709551615) (signed 0)) (pos 0) ≡ negℤ (pos 1)) × (length (codeBits (negℤ (pos 1))) ≡ 9) × StrictTells (pair 0 0 ∷ pair 18446744073709551615 0 ∷ []) (gave 32)
   -- capacity 4, interval 0, (1,10),(2,20),(3,30),(4,40),(5,50): (1,10),(3,30),(5,50)
   pub P8 : Keeps (offeredAll 4 0 (firstOf 5)) (pair 1 10 ∷ pair 3 30 ∷ pair 5 50 ∷ []) 50
   -- capacity 3, first four: (1,10),(3,30), last recorded 40; then (3,45) is recorded and (9,39), offered instead, skipped
@@ -179,8 +151,8 @@ pub record Cases : Type 0 where
       × Keeps (offeredAll 8192 60 (pair 1 100 ∷ pair 2 160 ∷ [])) (pair 1 100 ∷ pair 2 160 ∷ []) 160
   -- offered in order up to the first refusal: (4,160) after (5,100), recorded, and (6,159), skipped, is refused with 17 at position 2
   pub log :
-      LogTells (offeredAll 4 60 []) (pair 5 100 ∷ pair 6 159 ∷ pair 4 160 ∷ pair 6 170 ∷ [])
-      (gave (stopped (17 ∷ 2 ∷ []) (freshTable 4 60 1 (At (second 100))) (record { recorded = 1; skipped = 1 })))
+      logOf (offeredAll 4 60 []) (pair 5 100 ∷ pair 6 159 ∷ pair 4 160 ∷ pair 6 170 ∷ []) .answer
+      ≡ gave (stopped (17 ∷ 2 ∷ []) (freshTable 4 60 1 (At (second 100))) (record { recorded = 1; skipped = 1 }))
   -- in P8's table sequence 2: up 30, down 10; 6 up and 0 down: nothing
   pub P12 :
       Finds (offeredAll 4 0 (firstOf 5)) 2 RoundUp (partner (second 30))
@@ -192,6 +164,6 @@ pub record Cases : Type 0 where
       DecodeTells 9 (begun 2 ++ replicate 8 0 ++ (0x80 ∷ [])) (refused (8 ∷ 0 ∷ 1 ∷ 7 ∷ []))
       × DecodeTells 9 (begun 2 ++ replicate 8 0) (refused (6 ∷ 0 ∷ 1 ∷ []))
       × DecodeTells 9 (begun 9 ++ replicate 8 0 ++ (0x01 ∷ [])) (refused (7 ∷ 0 ∷ 8 ∷ []))
-      × Prints (0x02 ∷ []) "refused 2\n"
+      × (listingOf (0x02 ∷ []) ≡ ascii "refused 2\n")
   -- per array 4, 10, 5: a count of 2 for two arrays of one place, with no first value after it, gives 10; with two places, 5
   pub order : DecodeTells 1 (begun 2) (refused (10 ∷ 0 ∷ [])) × DecodeTells 2 (begun 2) (refused (5 ∷ 0 ∷ []))
