@@ -18,7 +18,9 @@ pub fn offer_pairs(
     from_seqs: &[u64],
     from_secs: &[i64],
 ) -> Logged
-    ensures { λ r. ⌜ Leaves (pairsLogOf (whole table (now (seqs .entry)) (now (secs .entry))) (now («from_seqs» .entry)) (now («from_secs» .entry))) (toldLog r) (now (seqs .exit)) (now (secs .exit)) ⌝ }
+    ensures { λ r. ⌜ Leaves
+        (pairsLogOf (whole table (now (seqs .entry)) (now (secs .entry))) (now («from_seqs» .entry)) (now («from_secs» .entry)))
+        (toldLog r) (now (seqs .exit)) (now (secs .exit)) ⌝ }
 {
     let n = from_seqs.len();
     if n != from_secs.len() {
@@ -39,7 +41,9 @@ pub fn extend_from(
     other_seqs: &[u64],
     other_secs: &[i64],
 ) -> Logged
-    ensures { λ r. ⌜ Leaves (extendOf (whole table (now (seqs .entry)) (now (secs .entry))) (whole other (now («other_seqs» .entry)) (now («other_secs» .entry)))) (toldLog r) (now (seqs .exit)) (now (secs .exit)) ⌝ }
+    ensures { λ r. ⌜ Leaves
+        (extendOf (whole table (now (seqs .entry)) (now (secs .entry))) (whole other (now («other_seqs» .entry)) (now («other_secs» .entry))))
+        (toldLog r) (now (seqs .exit)) (now (secs .exit)) ⌝ }
 {
     let n = other.count;
     match check(table, seqs, secs) {

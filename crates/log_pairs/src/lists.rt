@@ -37,7 +37,9 @@ pub(crate) fn pairs_good(
     n: usize,
 ) -> Logged
     requires { ⌜ (checkOf table (now seqs) (now secs) ≡ gave tt) × (n ≤ length (now «from_seqs»)) × (n ≤ length (now «from_secs»)) ⌝ }
-    ensures { λ r. ⌜ Leaves (frontOf (whole table (now (seqs .entry)) (now (secs .entry))) n (now («from_seqs» .entry)) (now («from_secs» .entry))) (toldLog r) (now (seqs .exit)) (now (secs .exit)) ⌝ }
+    ensures { λ r. ⌜ Leaves
+        (frontOf (whole table (now (seqs .entry)) (now (secs .entry))) n (now («from_seqs» .entry)) (now («from_secs» .entry)))
+        (toldLog r) (now (seqs .exit)) (now (secs .exit)) ⌝ }
 {
     let mut p = steps::going(
         table,

@@ -38,7 +38,9 @@ pub fn offer_all(
     secs: &mut [i64],
     records: &[TrackedSeq],
 ) -> Logged
-    ensures { λ r. ⌜ Leaves (logOf (whole table (now (seqs .entry)) (now (secs .entry))) (now (records .entry))) (toldLog r) (now (seqs .exit)) (now (secs .exit)) ⌝ }
+    ensures { λ r. ⌜ Leaves
+        (logOf (whole table (now (seqs .entry)) (now (secs .entry))) (now (records .entry)))
+        (toldLog r) (now (seqs .exit)) (now (secs .exit)) ⌝ }
 {
     let mut p = begin(seqs, secs, table, records.len());
     let mut i = 0;

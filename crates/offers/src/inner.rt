@@ -22,7 +22,9 @@ pub fn offer_good(
     ts: Second,
 ) -> Offered
     requires { ⌜ checkOf table (now seqs) (now secs) ≡ gave tt ⌝ }
-    ensures { λ r. ⌜ Leaves (offering (whole table (now (seqs .entry)) (now (secs .entry))) seq ts) (toldOffer r) (now (seqs .exit)) (now (secs .exit)) ⌝ }
+    ensures { λ r. ⌜ Leaves
+        (offering (whole table (now (seqs .entry)) (now (secs .entry))) seq ts)
+        (toldOffer r) (now (seqs .exit)) (now (secs .exit)) ⌝ }
 {
     let q = seq.0;
     let s = ts.0;

@@ -26,7 +26,9 @@ pub fn offer(
     seq: Seq,
     ts: Second,
 ) -> Offered
-    ensures { λ r. ⌜ Leaves (offering (whole table (now (seqs .entry)) (now (secs .entry))) seq ts) (toldOffer r) (now (seqs .exit)) (now (secs .exit)) ⌝ }
+    ensures { λ r. ⌜ Leaves
+        (offering (whole table (now (seqs .entry)) (now (secs .entry))) seq ts)
+        (toldOffer r) (now (seqs .exit)) (now (secs .exit)) ⌝ }
 {
     let checked = check(table, seqs, secs);
     match checked {

@@ -66,7 +66,8 @@ pub extern "C" fn skut_offer_pairs(
     from_seqs: &[u64],
     from_secs: &[i64],
 ) -> TableAnswer
-    ensures { λ r. ⌜ OffersPairs state (now (seqs .entry)) (now (secs .entry)) (now («from_seqs» .entry)) (now («from_secs» .entry)) r (now (seqs .exit)) (now (secs .exit)) ⌝ }
+    ensures { λ r. ⌜ OffersPairs state (now (seqs .entry)) (now (secs .entry)) (now («from_seqs» .entry)) (now («from_secs» .entry))
+        r (now (seqs .exit)) (now (secs .exit)) ⌝ }
 {
     let table = states::table_of(state);
     tables::of_logged(log_pairs::offer_pairs(table, seqs, secs, from_seqs, from_secs))
@@ -82,7 +83,8 @@ pub extern "C" fn skut_extend_from(
     other_seqs: &[u64],
     other_secs: &[i64],
 ) -> TableAnswer
-    ensures { λ r. ⌜ Extends state (now (seqs .entry)) (now (secs .entry)) other (now («other_seqs» .entry)) (now («other_secs» .entry)) r (now (seqs .exit)) (now (secs .exit)) ⌝ }
+    ensures { λ r. ⌜ Extends state (now (seqs .entry)) (now (secs .entry)) other (now («other_seqs» .entry)) (now («other_secs» .entry))
+        r (now (seqs .exit)) (now (secs .exit)) ⌝ }
 {
     let table = states::table_of(state);
     let from = states::table_of(other);
