@@ -17,7 +17,7 @@ same-length-2 c = search needs
 returns : tie.Need-returns
 returns c =
     let restored = c .before .before .before .before .restore .ensures in
-    (rw (c .of-restored .ensures, restored .0), rw (restored .1 .0, restored .0), rw (restored .1 .1, restored .0))
+    (rw (c .of-restored .ensures, restored .0), rw (restored .1, restored .0), rw (restored .2, restored .0))
 
 pub skut-restore-spec : {M : Type 1} → statement M
 skut-restore-spec =
