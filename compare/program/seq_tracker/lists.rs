@@ -4,6 +4,7 @@ use super::chance::Chance;
 use super::lent;
 use super::offers::{empty, second, sequence, shown, table_of, OK};
 use super::ours::{Answer, Table, TableAnswer};
+use super::refusals::{no_table, told};
 use super::tally::Tally;
 use super::theirs::{self, Offer};
 
@@ -90,7 +91,7 @@ fn rising_from(chance: &mut Chance, t: &SequenceTracker, n: usize) -> Vec<u64> {
     (0..n).map(|_| next()).collect()
 }
 
-/// A log about a table's last pair, and now and then one entry more on one side.
+/// A log about a table's last pair.
 fn log(chance: &mut Chance, t: &SequenceTracker, n: usize) -> (Vec<u64>, Vec<i64>) {
     let (mut last_seq, mut last_sec) = (t.sequence_numbers.last().copied(), t.last_recorded_ts);
     let (mut seqs, mut secs) = (vec![], vec![]);
@@ -101,12 +102,20 @@ fn log(chance: &mut Chance, t: &SequenceTracker, n: usize) -> (Vec<u64>, Vec<i64
         last_seq = last_seq.max(Some(seq));
         last_sec = last_sec.max(Some(sec));
     }
-    match chance.below(4) {
-        0 => seqs.push(7),
-        1 => secs.push(7),
-        _ => (),
-    }
     (seqs, secs)
+}
+
+/// A log with one entry more on one side, which only document 01 judges: 18, and nothing changes.
+fn unequal(tally: &mut Tally, chance: &mut Chance, t: &SequenceTracker, ours: &mut Table, mut seqs: Vec<u64>, mut secs: Vec<i64>) {
+    match chance.below(2) {
+        0 => seqs.push(7),
+        _ => secs.push(7),
+    }
+    let before = (ours.seqs.all(), ours.secs.all());
+    let kind = "lists of offers refused, 18";
+    let input = || format!("sequences {seqs:?} and seconds {secs:?} offered to {}", shown(t));
+    tally.ruled(kind, input, &no_table(told(18, 0, 0)), &ours.offer_pairs(&seqs, &secs));
+    tally.kept(kind, input, &before, &(ours.seqs.all(), ours.secs.all()));
 }
 
 /// A log long enough to halve a full-sized table more than once, in parts.
@@ -132,6 +141,7 @@ pub fn random(tally: &mut Tally, chance: &mut Chance) {
             let n = chance.index(20);
             let (seqs, secs) = log(chance, &t, n);
             list(tally, &mut t, &mut ours, &seqs, &secs);
+            unequal(tally, chance, &t, &mut ours, seqs, secs);
             if chance.below(2) == 0 {
                 extend(tally, chance, &mut t, &mut ours);
             }

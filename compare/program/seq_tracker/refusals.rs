@@ -7,11 +7,11 @@ use super::readers::unfit;
 use super::tally::Tally;
 use super::theirs;
 
-fn told(number: u32, a: u64, b: u64) -> Answer {
+pub fn told(number: u32, a: u64, b: u64) -> Answer {
     Answer { number, a, b, c: 0 }
 }
 
-fn no_table(answer: Answer) -> TableAnswer {
+pub fn no_table(answer: Answer) -> TableAnswer {
     TableAnswer { answer, recorded: 0, skipped: 0, state: NO_STATE }
 }
 
