@@ -8,7 +8,8 @@ use lib.ListN.{length, length-append}
 use lib.IntN.{ℤ, pos}
 use lib.Arith.{digits-lt}
 use lib.Pow.{pow-pos, pow-add}
-use Rattle.signed.specs.Signed.{lowBits}
+use Rattle.signed.specs.Signed.{pattern}
+use Rattle.signed.specs.Inner.{lowBits}
 use Rattle.gorilla.specs.declared.Row.{Row}
 use Rattle.gorilla.specs.Rows.{rowOf}
 use Rattle.gorilla.specs.BitList.{natBits, natFrom}
@@ -51,10 +52,18 @@ module _ (a b h : Held) (f : Fits a) (g : Fits b) (e : h ≡ record { value = a 
   pub joined-fits : Fits h
   joined-fits = subst Fits (sym e) (omega (arith, digits-lt f g, pow-add 2 (a .width) (b .width)))
 
+-- bits above the width are not written
+low-same : (w x : ℕ) → natBits w (x % 2 ^ w) ≡ natBits w x
+low-same w x =
+    let v : natFrom 0 (natBits w x) ≡ x % 2 ^ w = from-nat 0 w x ∙ omega (arith, zero-mul (2 ^ w)) in
+    ap₂ natBits (sym (length-natBits w x)) (sym v) ∙ nat-from 0 (natBits w x) (bits-natBits w x)
+
 -- prefix and low bits of a row
 pub code-joined : (d : ℤ) (r : Row) (x : ℕ) → r ≡ rowOf d → x ≡ lowBits ((rowOf d) .width) d → natBits (r .«prefix_bits») (r .prefix) ++ natBits (r .width) x ≡ codeBits d
 unfolding codeBits
-code-joined d r x e f = ap₂ (λ (y : Row) (m : ℕ). natBits (y .«prefix_bits») (y .prefix) ++ natBits (y .width) m) e f
+code-joined d r x e f =
+    ap₂ (λ (y : Row) (m : ℕ). natBits (y .«prefix_bits») (y .prefix) ++ natBits (y .width) m) e f
+    ∙ ap (λ (bits : List ℕ). natBits ((rowOf d) .«prefix_bits») ((rowOf d) .prefix) ++ bits) (low-same ((rowOf d) .width) (pattern d))
 
 -- the first row: one zero bit
 pub zero-code : (d : ℤ) → d ≡ pos 0 → natBits 1 0 ≡ codeBits d

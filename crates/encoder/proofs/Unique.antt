@@ -3,14 +3,13 @@ use Prim.Native.Nat.{ℕ}
 use mathlib.Core.Path.{_≡_, refl, sym, ap, _∙_}
 use mathlib.Core.List.{List, [], _∷_}
 use native.Mathlib.Omega.{arith}
-use lib.ListN.{length}
 use lib.IntN.{ℤ}
 use Rattle.told.specs.Told.{Told}
 use Rattle.told.proofs.Unique.{given-not-refused, same-list}
 use Rattle.gorilla.specs.Array.{arrayNo}
 use Rattle.gorilla.specs.declared.Array.{Array}
 use Rattle.gorilla.specs.declared.Array.the-variants.{Sequences, Seconds}
-use Rattle.encoder.specs.Encode.{told, toldLen, toldEncode, lenRule, encodeRule, strictRule, Tells, Encodes, EncodesStrict}
+use Rattle.encoder.specs.Encode.{told, toldLen, toldEncode, lenRule, Encodes}
 use Rattle.encoder.specs.declared.Refusal.{Refusal}
 use Rattle.encoder.specs.declared.Refusal.the-variants as rv
 use Rattle.encoder.specs.declared.EncodedLen.{EncodedLen}
@@ -69,14 +68,7 @@ encode-told (ev.Refused r) (ev.Refused q) h = ap ev.Refused (refusal-told r q (s
 pub one-len : (seqs : List ℕ) (secs : List ℤ) (a b : EncodedLen) → toldLen a ≡ lenRule seqs secs → toldLen b ≡ lenRule seqs secs → a ≡ b
 one-len seqs secs a b h k = len-told a b (h ∙ sym k)
 
--- an answer and a buffer that tell what a rule tells
-one-outcome : (seqs : List ℕ) (secs : List ℤ) (rule : Told ℕ) (out : List ℕ) (a b : Encoded) (x y : List ℕ) → Tells seqs secs rule out a x → Tells seqs secs rule out b y → (a ≡ b) × (x ≡ y)
-one-outcome seqs secs rule out a b x y h k = (encode-told a b (h .0 ∙ sym (k .0)), h .1 ∙ sym (k .1))
-
--- `encode`: its answer, and the buffer
-pub one-encode : (seqs : List ℕ) (secs : List ℤ) (out : List ℕ) (a b : Encoded) (x y : List ℕ) → Encodes seqs secs out a x → Encodes seqs secs out b y → (a ≡ b) × (x ≡ y)
-one-encode seqs secs out = one-outcome seqs secs (encodeRule seqs secs (length out)) out
-
--- `encode_strict`: its answer, and the buffer
-pub one-strict : (seqs : List ℕ) (secs : List ℤ) (out : List ℕ) (a b : Encoded) (x y : List ℕ) → EncodesStrict seqs secs out a x → EncodesStrict seqs secs out b y → (a ≡ b) × (x ≡ y)
-one-strict seqs secs out = one-outcome seqs secs (strictRule seqs secs (length out)) out
+-- `encode` and `encode_strict`, each by its rule: its answer, and the buffer
+pub one-encode : (rule : List ℕ → List ℤ → ℕ → Told ℕ) (seqs : List ℕ) (secs : List ℤ) (out : List ℕ) (a b : Encoded) (x y : List ℕ) → Encodes rule seqs secs out a x → Encodes rule seqs secs out b y
+    → (a ≡ b) × (x ≡ y)
+one-encode rule seqs secs out a b x y h k = (encode-told a b (h .0 ∙ sym (k .0)), h .1 ∙ sym (k .1))

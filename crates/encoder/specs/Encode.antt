@@ -7,7 +7,7 @@ use lib.Dec.{eqb, ltb}
 use lib.ListN.{length}
 use lib.IntN.{ℤ}
 use Rattle.told.specs.Told.{Told, gave, refused}
-use Rattle.told.specs.Over.{over}
+use Rattle.told.specs.Over.{filled}
 use Rattle.gorilla.specs.Array.{arrayNo}
 use Rattle.gorilla.specs.Format.{imageBytes}
 use Rattle.gorilla.specs.Wide.{Wide, none, found, wideOf}
@@ -61,19 +61,6 @@ encodeRule seqs secs room = arraysRule seqs secs (roomRule (length (imageBytes s
 abbrev pub strictRule : List ℕ → List ℤ → ℕ → Told ℕ
 strictRule seqs secs room = arraysRule seqs secs (wideRule (wideOf seqs secs) (roomRule (length (imageBytes seqs secs)) room))
 
--- the output after an encoder that tells this: the image, and past it what stood there; refused, it is as before
-abbrev pub encodedIn : List ℕ → List ℤ → Told ℕ → List ℕ → List ℕ
-encodedIn seqs secs (gave n) out = over (imageBytes seqs secs) out
-encodedIn seqs secs (refused l) out = out
-
--- an answer r that tells what the rule tells, and what out is after it
-abbrev pub Tells : List ℕ → List ℤ → Told ℕ → List ℕ → Encoded → List ℕ → Type 0
-Tells seqs secs rule out r now = (toldEncode r ≡ rule) × (now ≡ encodedIn seqs secs rule out)
-
--- `encode` of seqs and secs into out: its answer, and what out is afterwards
-abbrev pub Encodes : List ℕ → List ℤ → List ℕ → Encoded → List ℕ → Type 0
-Encodes seqs secs out r now = Tells seqs secs (encodeRule seqs secs (length out)) out r now
-
--- `encode_strict`
-abbrev pub EncodesStrict : List ℕ → List ℤ → List ℕ → Encoded → List ℕ → Type 0
-EncodesStrict seqs secs out r now = Tells seqs secs (strictRule seqs secs (length out)) out r now
+-- an encoder by its rule: its answer, and the output afterwards: the image, and past it what stood there; refused, it is as before
+abbrev pub Encodes : (List ℕ → List ℤ → ℕ → Told ℕ) → List ℕ → List ℤ → List ℕ → Encoded → List ℕ → Type 0
+Encodes rule seqs secs out r out′ = (toldEncode r ≡ rule seqs secs (length out)) × (out′ ≡ filled (rule seqs secs (length out)) (imageBytes seqs secs) out)

@@ -5,7 +5,7 @@ use mathlib.Core.List.{List}
 use lib.ListN.{length}
 use lib.IntN.{ℤ}
 use Rattle.gorilla.specs.Format.{imageBytes}
-use Rattle.encoder.specs.Encode.{Tells, roomRule}
+use Rattle.encoder.specs.Encode.{Encodes, roomRule}
 use Rattle.encoder.specs.declared.Encoded.{Encoded}
 
 -- arrays that pass 18 and 19, and the most bytes that an image of so many pairs has
@@ -14,4 +14,4 @@ Measured seqs secs most = (length seqs ≡ length secs) × (length seqs ≤ 6553
 
 -- the image, or 21
 abbrev pub EncodesInRoom : List ℕ → List ℤ → List ℕ → Encoded → List ℕ → Type 0
-EncodesInRoom seqs secs out r now = Tells seqs secs (roomRule (length (imageBytes seqs secs)) (length out)) out r now
+EncodesInRoom = Encodes (λ seqs secs room. roomRule (length (imageBytes seqs secs)) room)

@@ -1,5 +1,5 @@
 // The image, or why there is none.
-ghost use Rattle.encoder.specs.Encode.{Encodes, EncodesStrict};
+ghost use Rattle.encoder.specs.Encode.{encodeRule, strictRule, Encodes};
 ghost use Rattle.encoder.specs.Inner.{Measured, EncodesInRoom};
 use crate::Encoded;
 use crate::EncodedLen;
@@ -28,7 +28,7 @@ fn write_if_room(seqs: &[u64], secs: &[i64], out: &mut [u8], most: usize) -> Enc
 
 // The Rust's bytes: differences wrap, and one that 32 bits do not hold is cut to them.
 pub fn encode(seqs: &[u64], secs: &[i64], out: &mut [u8]) -> Encoded
-    ensures { λ r. ⌜ Encodes (now (seqs .entry)) (now (secs .entry)) (now (out .entry)) r (now (out .exit)) ⌝ }
+    ensures { λ r. ⌜ Encodes encodeRule (now (seqs .entry)) (now (secs .entry)) (now (out .entry)) r (now (out .exit)) ⌝ }
 {
     match most_bytes(seqs, secs) {
         EncodedLen::Bytes(most) => write_if_room(seqs, secs, out, most),
@@ -38,7 +38,7 @@ pub fn encode(seqs: &[u64], secs: &[i64], out: &mut [u8]) -> Encoded
 
 // The same where 32 bits hold every difference of deltas, so that the image reads back as the arrays.
 pub fn encode_strict(seqs: &[u64], secs: &[i64], out: &mut [u8]) -> Encoded
-    ensures { λ r. ⌜ EncodesStrict (now (seqs .entry)) (now (secs .entry)) (now (out .entry)) r (now (out .exit)) ⌝ }
+    ensures { λ r. ⌜ Encodes strictRule (now (seqs .entry)) (now (secs .entry)) (now (out .entry)) r (now (out .exit)) ⌝ }
 {
     match most_bytes(seqs, secs) {
         EncodedLen::Bytes(most) => match first_wide(seqs, secs) {

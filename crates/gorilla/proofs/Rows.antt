@@ -7,7 +7,7 @@ use borrow.Author.Tests.{leb-true, leb-false, le-leb, lt-leb}
 use lib.Dec.{leb}
 use lib.IntN.{ℤ, pos, negsuc, natAbs}
 use lib.Signed.{mag}
-use Rattle.signed.specs.Signed.{lowBits}
+use Rattle.signed.specs.Inner.{lowBits}
 use Rattle.signed.proofs.Widths.{extend-low}
 use Rattle.gorilla.specs.declared.Row.{Row}
 use Rattle.gorilla.specs.Rows.{row, rowAt, rowOf, decoded, strict}

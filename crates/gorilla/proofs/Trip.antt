@@ -3,7 +3,7 @@ use Prim.Native.Nat.{ℕ, zero, suc, _+_, _-_, _*_, _/_, _%_, _^_, _≤_, _<_}
 use mathlib.Core.Path.{_≡_, refl, sym, ap, ap₂, _∙_, subst}
 use mathlib.Core.Bool.{Bool, true, false, cond}
 use mathlib.Core.List.{List, [], _∷_, _++_, append-assoc}
-use native.Mathlib.Nat.{mod-mod, mod-lt, mod-eq-of-lt}
+use native.Mathlib.Nat.{mod-lt, mod-eq-of-lt}
 use native.Mathlib.Omega.{arith}
 use borrow.Author.Tests.{lt-ltb, le-ltb, ltb-true, ltb-false}
 use lib.Dec.{leb, ltb}
@@ -15,7 +15,8 @@ use mir.Syntax.{w64}
 use mir.Val.{SFits}
 use mir.Facts.{sfits-toZ}
 use Rattle.gorilla.specs.declared.Row.{Row}
-use Rattle.signed.specs.Signed.{signed, pattern, addW, subW, addS, subS, lowBits}
+use Rattle.signed.specs.Signed.{signed, pattern, addW, subW, addS, subS}
+use Rattle.signed.specs.Inner.{lowBits}
 use Rattle.signed.specs.Extend.{extend, signedOf}
 use Rattle.gorilla.specs.Rows.{row, rowAt, rowOf, decoded, widths, strict}
 use Rattle.signed.proofs.Wrapping.{pattern-signed, signed-pattern, addS-subS, sub-add, sub-lt}
@@ -62,9 +63,7 @@ module _ (a i : ℕ) where
 
   pub read-code : (d : ℤ) (rest : List ℕ) → readCode a i (codeBits d ++ rest) ≡ read (sentOf d) rest
   unfolding codeBits ByRow sentOf
-  read-code d rest =
-      let w : ℕ = (rowOf d) .width in
-      rw append-assoc (any-row d (lowBits w d) rest) ∙ ap (λ (u : ℕ). read (decoded w u) rest) (mod-mod (pattern d) (2 ^ w))
+  read-code d rest = rw append-assoc (any-row d (pattern d) rest)
 
 -- ---- the codes
 

@@ -3,13 +3,13 @@ use Prim.Native.Nat.{ℕ, zero, suc, _/_, _%_}
 use mathlib.Core.List.{List, [], _∷_, _++_, map}
 use lib.ListN.{length}
 use lib.IntN.{ℤ, pos}
-use Rattle.signed.specs.Signed.{signed, pattern, subS, lowBits}
+use Rattle.signed.specs.Signed.{signed, pattern, subS}
 use Rattle.gorilla.specs.Rows.{rowOf}
 use Rattle.gorilla.specs.BitList.{natBits, packed}
 
 -- the code of a difference of deltas: its row's prefix, and as many low bits as the row has
 unfoldable pub codeBits : ℤ → List ℕ
-codeBits d = natBits ((rowOf d) .«prefix_bits») ((rowOf d) .prefix) ++ natBits ((rowOf d) .width) (lowBits ((rowOf d) .width) d)
+codeBits d = natBits ((rowOf d) .«prefix_bits») ((rowOf d) .prefix) ++ natBits ((rowOf d) .width) (pattern d)
 
 -- the codes of xs, which follow the value p, reached by the delta e
 unfoldable pub codesBits : ℤ → ℤ → List ℤ → List ℕ

@@ -17,7 +17,8 @@ use Rattle.told.specs.Over.{over}
 use Rattle.limits.specs.Domain.{outside}
 use Rattle.tracker.specs.Refusal.{ifGood}
 use Rattle.limits.specs.Settings.{roomOf}
-use Rattle.tracker.specs.Table.{kept, lastMisplaced, lastBelow, checkOf}
+use Rattle.tracker.specs.Table.{kept, checkOf}
+use Rattle.tracker.specs.Inner.{lastMisplaced, lastBelow}
 use Rattle.order.specs.Order.{secOutside}
 use Rattle.tracker.specs.declared.Seq.{Seq}
 use Rattle.tracker.specs.declared.Second.{Second}

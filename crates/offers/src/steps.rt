@@ -4,7 +4,7 @@ ghost use mathlib.Core.Bool.{false};
 ghost use Prim.Native.Nat.{_≤_, _<_};
 ghost use lib.ListN.{length};
 ghost use Rattle.limits.specs.Domain.{outside};
-ghost use Rattle.tracker.specs.Table.{lastOutside};
+ghost use Rattle.tracker.specs.Inner.{lastOutside};
 ghost use Rattle.offers.specs.Offer.{tooSoon, lowSeq, stateWith};
 use signed::as_signed;
 use tracker::LastRecorded;

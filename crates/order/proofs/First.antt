@@ -55,24 +55,3 @@ first-same t u n same = from-same n 0 (λ j _ l. same j (omega arith))
     from-same : (m k : ℕ) → ((j : ℕ) → k ≤ j → j < k + m → t j ≡ u j) → firstFrom t k m ≡ firstFrom u k m
     from-same zero k same = refl
     from-same (suc m) k same = rw (same k (omega arith) (omega arith), from-same m (suc k) (λ j a b. same j (omega arith) (omega arith)))
-
--- the first index is not above n
-pub first-most : (t : ℕ → Bool) (n : ℕ) → first t n ≤ n
-unfolding firstFrom
-first-most t n = omega (arith, from-most n 0)
-  where
-    pick : (b : Bool) (m k : ℕ) → firstFrom t (suc k) m ≤ suc k + m → cond b k (firstFrom t (suc k) m) ≤ k + suc m
-    pick true m k h = omega (arith, add-suc k m)
-    pick false m k h = omega (arith, add-suc k m, h)
-
-    from-most : (m k : ℕ) → firstFrom t k m ≤ k + m
-    from-most zero k = omega arith
-    from-most (suc m) k = pick (t k) m k (from-most m (suc k))
-
--- and the test fails below it
-pub first-under : (t : ℕ → Bool) (n j : ℕ) → j < first t n → t j ≡ false
-first-under t n j l = go (t j) refl
-  where
-    go : (b : Bool) → t j ≡ b → b ≡ false
-    go true e = absurd (omega (arith, from-le t n 0 j (omega arith) (omega (arith, first-most t n)) e))
-    go false e = refl

@@ -7,6 +7,8 @@ use native.Mathlib.Omega.{arith}
 use lib.ListN.{getD}
 use lib.IntN.{ℤ}
 use Rattle.told.specs.Told.{Told, refused}
+use Rattle.told.specs.Over.{filled}
+use Rattle.gorilla.specs.Reading.{pairsRead}
 use Rattle.told.proofs.Unique.{given-not-refused, same-list, same-gift}
 use Rattle.tracker.specs.Refusal.{told}
 use Rattle.tracker.specs.declared.Refusal.{Refusal}
@@ -16,7 +18,7 @@ use Rattle.code_reader.specs.Refusal as reader
 use Rattle.code_reader.specs.declared.Refusal as dec
 use Rattle.code_reader.specs.declared.Refusal.the-variants as dv
 use Rattle.code_reader.proofs.Unique.{one-refusal}
-use Rattle.restoring.specs.Restore.{toldRestore, seqsAfter, secsAfter, Restores}
+use Rattle.restoring.specs.Restore.{toldRestore, readTable, Restores}
 use Rattle.restoring.specs.declared.Restored.{Restored}
 use Rattle.restoring.specs.declared.Restored.the-variants as rv
 
@@ -68,6 +70,6 @@ pub one-restore : (bytes seqs : List ℕ) (secs : List ℤ) (a b : Restored) (x 
 one-restore bytes seqs secs a b x x′ y y′ f g =
     let e : a ≡ b = restore-told a b (f .0 ∙ sym (g .0)) in (
       e,
-      f .1 ∙ ap (λ (r : Restored). seqsAfter bytes (toldRestore r) seqs) e ∙ sym (g .1),
-      f .2 ∙ ap (λ (r : Restored). secsAfter bytes (toldRestore r) secs) e ∙ sym (g .2),
+      f .1 ∙ ap (λ (r : Restored). filled (toldRestore r) (pairsRead (readTable bytes) .seqs) seqs) e ∙ sym (g .1),
+      f .2 ∙ ap (λ (r : Restored). filled (toldRestore r) (pairsRead (readTable bytes) .secs) secs) e ∙ sym (g .2),
     )

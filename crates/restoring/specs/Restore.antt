@@ -37,16 +37,9 @@ judged (parser.refused what) = refused what
 abbrev pub restoreOf : List ℕ → List ℕ → List ℤ → Told SequenceTracker
 restoreOf bytes seqs secs = cond (ltb (length seqs) 8192 || ltb (length secs) 8192) (refused (14 ∷ [])) (judged (readTable bytes))
 
--- the lent arrays after what is told
-abbrev pub seqsAfter : List ℕ → Told SequenceTracker → List ℕ → List ℕ
-seqsAfter bytes what old = filled what (pairsRead (readTable bytes) .seqs) old
-
-abbrev pub secsAfter : List ℕ → Told SequenceTracker → List ℤ → List ℤ
-secsAfter bytes what old = filled what (pairsRead (readTable bytes) .secs) old
-
--- `restore`: its answer, and both arrays afterwards
+-- `restore`: its answer, and both arrays afterwards: the pairs that were read, and past them what stood there; refused, as before
 abbrev pub Restores : List ℕ → List ℕ → List ℤ → Restored → List ℕ → List ℤ → Type 0
 Restores bytes seqs secs r seqs′ secs′ =
     (toldRestore r ≡ restoreOf bytes seqs secs)
-    × (seqs′ ≡ seqsAfter bytes (toldRestore r) seqs)
-    × (secs′ ≡ secsAfter bytes (toldRestore r) secs)
+    × (seqs′ ≡ filled (toldRestore r) (pairsRead (readTable bytes) .seqs) seqs)
+    × (secs′ ≡ filled (toldRestore r) (pairsRead (readTable bytes) .secs) secs)

@@ -7,6 +7,7 @@ use native.Mathlib.Omega.{arith}
 use lib.ListN.{getD}
 use lib.IntN.{ℤ}
 use Rattle.told.specs.Told.{Told, refused}
+use Rattle.told.specs.Over.{filled}
 use Rattle.told.proofs.Unique.{given-not-refused, same-list, same-gift}
 use Rattle.tracker.specs.Refusal.{told}
 use Rattle.tracker.specs.declared.SequenceTracker.{SequenceTracker}
@@ -17,7 +18,7 @@ use Rattle.encoder.specs.Encode as encoder
 use Rattle.encoder.specs.declared.Refusal as enc
 use Rattle.encoder.specs.declared.Refusal.the-variants as ev
 use Rattle.encoder.proofs.Unique.{refusal-told}
-use Rattle.saving.specs.Save.{toldSave, savedIn, Saves, SavesStrictly}
+use Rattle.saving.specs.Save.{toldSave, keptImage, Saves}
 use Rattle.saving.specs.declared.Saved.{Saved}
 use Rattle.saving.specs.declared.Saved.the-variants as sv
 
@@ -59,11 +60,9 @@ save-told (sv.NotEncoded r) (sv.Refused q) h = apart (told q) (encoder.told r) (
 save-told (sv.NotEncoded r) (sv.NotEncoded q) h = ap sv.NotEncoded (refusal-told r q (same-list h))
 
 module _ (table : SequenceTracker) (seqs : List ℕ) (secs : List ℤ) (out : List ℕ) where
-  same-buffer : (a b : Saved) (x y : List ℕ) → a ≡ b → x ≡ savedIn table seqs secs (toldSave a) out → y ≡ savedIn table seqs secs (toldSave b) out → x ≡ y
-  same-buffer a b x y e f g = f ∙ ap (λ (s : Saved). savedIn table seqs secs (toldSave s) out) e ∙ sym g
+  same-buffer : (a b : Saved) (x y : List ℕ) → a ≡ b → x ≡ filled (toldSave a) (keptImage table seqs secs) out → y ≡ filled (toldSave b) (keptImage table seqs secs) out → x ≡ y
+  same-buffer a b x y e f g = f ∙ ap (λ (s : Saved). filled (toldSave s) (keptImage table seqs secs) out) e ∙ sym g
 
-  pub one-save : (a b : Saved) (x y : List ℕ) → Saves table seqs secs out a x → Saves table seqs secs out b y → (a ≡ b) × (x ≡ y)
-  one-save a b x y f g = let e = save-told a b (f .0 ∙ sym (g .0)) in (e, same-buffer a b x y e (f .1) (g .1))
-
-  pub one-save-strict : (a b : Saved) (x y : List ℕ) → SavesStrictly table seqs secs out a x → SavesStrictly table seqs secs out b y → (a ≡ b) × (x ≡ y)
-  one-save-strict a b x y f g = let e = save-told a b (f .0 ∙ sym (g .0)) in (e, same-buffer a b x y e (f .1) (g .1))
+  -- `save` and `save_strict`, each by its rule
+  pub one-save : (rule : SequenceTracker → List ℕ → List ℤ → ℕ → Told ℕ) (a b : Saved) (x y : List ℕ) → Saves rule table seqs secs out a x → Saves rule table seqs secs out b y → (a ≡ b) × (x ≡ y)
+  one-save rule a b x y f g = let e = save-told a b (f .0 ∙ sym (g .0)) in (e, same-buffer a b x y e (f .1) (g .1))

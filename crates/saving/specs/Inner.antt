@@ -5,7 +5,9 @@ use mathlib.Core.Bool.{Bool, cond}
 use mathlib.Core.List.{List}
 use lib.IntN.{ℤ}
 use lib.ListN.{length, take}
-use Rattle.encoder.specs.Encode.{encodeRule, strictRule, encodedIn}
+use Rattle.told.specs.Over.{filled}
+use Rattle.gorilla.specs.Format.{imageBytes}
+use Rattle.encoder.specs.Encode.{encodeRule, strictRule}
 use Rattle.saving.specs.Save.{toldSave}
 use Rattle.saving.specs.declared.Saved.{Saved}
 
@@ -13,4 +15,4 @@ use Rattle.saving.specs.declared.Saved.{Saved}
 abbrev pub EncodesFirst : ℕ → Bool → List ℕ → List ℤ → List ℕ → Saved → List ℕ → Type 0
 EncodesFirst n strict seqs secs out r out′ =
     (toldSave r ≡ cond strict (strictRule (take n seqs) (take n secs) (length out)) (encodeRule (take n seqs) (take n secs) (length out)))
-    × (out′ ≡ encodedIn (take n seqs) (take n secs) (toldSave r) out)
+    × (out′ ≡ filled (toldSave r) (imageBytes (take n seqs) (take n secs)) out)

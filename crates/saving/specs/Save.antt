@@ -5,12 +5,13 @@ use mathlib.Core.List.{List}
 use lib.IntN.{ℤ}
 use lib.ListN.{length}
 use Rattle.told.specs.Told.{Told, gave, refused}
+use Rattle.told.specs.Over.{filled}
 use Rattle.gorilla.specs.Format.{imageBytes}
 use Rattle.gorilla.specs.Wide.{wideOf}
 use Rattle.tracker.specs.Refusal.{told, ifGood}
 use Rattle.tracker.specs.Table.{checkOf, kept}
 use Rattle.tracker.specs.declared.SequenceTracker.{SequenceTracker}
-use Rattle.encoder.specs.Encode.{wideRule, roomRule, encodedIn}
+use Rattle.encoder.specs.Encode.{wideRule, roomRule}
 use Rattle.encoder.specs.Encode as encoder
 use Rattle.saving.specs.declared.Saved.{Saved}
 use Rattle.saving.specs.declared.Saved.the-variants.{Written, Refused, NotEncoded}
@@ -21,26 +22,19 @@ toldSave (Written n) = gave n
 toldSave (Refused r) = refused (told r)
 toldSave (NotEncoded r) = refused (encoder.told r)
 
--- 21 where the image of the kept pairs finds no room
-abbrev pub keptRoom : SequenceTracker → List ℕ → List ℤ → ℕ → Told ℕ
-keptRoom table seqs secs room = roomRule (length (imageBytes (kept table seqs) (kept table secs))) room
+-- the image of the pairs that a table keeps
+abbrev pub keptImage : SequenceTracker → List ℕ → List ℤ → List ℕ
+keptImage table seqs secs = imageBytes (kept table seqs) (kept table secs)
 
--- 14, 11, 12, 13; then 21
+-- 14, 11, 12, 13; then 21 where the image finds no room
 abbrev pub saveOf : SequenceTracker → List ℕ → List ℤ → ℕ → Told ℕ
-saveOf table seqs secs room = ifGood (checkOf table seqs secs) (keptRoom table seqs secs room)
+saveOf table seqs secs room = ifGood (checkOf table seqs secs) (roomRule (length (keptImage table seqs secs)) room)
 
 -- strict: 14, 11, 12, 13; then 20, 21
 abbrev pub saveStrictOf : SequenceTracker → List ℕ → List ℤ → ℕ → Told ℕ
-saveStrictOf table seqs secs room = ifGood (checkOf table seqs secs) (wideRule (wideOf (kept table seqs) (kept table secs)) (keptRoom table seqs secs room))
+saveStrictOf table seqs secs room =
+    ifGood (checkOf table seqs secs) (wideRule (wideOf (kept table seqs) (kept table secs)) (roomRule (length (keptImage table seqs secs)) room))
 
--- the buffer after a save that tells this: the image of the kept pairs, and past it what stood there; refused, as before
-abbrev pub savedIn : SequenceTracker → List ℕ → List ℤ → Told ℕ → List ℕ → List ℕ
-savedIn table seqs secs what out = encodedIn (kept table seqs) (kept table secs) what out
-
--- `save`: its answer, and the buffer afterwards
-abbrev pub Saves : SequenceTracker → List ℕ → List ℤ → List ℕ → Saved → List ℕ → Type 0
-Saves table seqs secs out r out′ = (toldSave r ≡ saveOf table seqs secs (length out)) × (out′ ≡ savedIn table seqs secs (toldSave r) out)
-
--- `save_strict`
-abbrev pub SavesStrictly : SequenceTracker → List ℕ → List ℤ → List ℕ → Saved → List ℕ → Type 0
-SavesStrictly table seqs secs out r out′ = (toldSave r ≡ saveStrictOf table seqs secs (length out)) × (out′ ≡ savedIn table seqs secs (toldSave r) out)
+-- a save by its rule: its answer, and the buffer afterwards: the image, and past it what stood there; refused, it is as before
+abbrev pub Saves : (SequenceTracker → List ℕ → List ℤ → ℕ → Told ℕ) → SequenceTracker → List ℕ → List ℤ → List ℕ → Saved → List ℕ → Type 0
+Saves rule table seqs secs out r out′ = (toldSave r ≡ rule table seqs secs (length out)) × (out′ ≡ filled (toldSave r) (keptImage table seqs secs) out)

@@ -4,7 +4,7 @@
 // the tables of which other pairs would be read back.
 ghost use Prim.Native.Nat.{_≤_};
 ghost use lib.ListN.{length};
-ghost use Rattle.saving.specs.Save.{Saves, SavesStrictly};
+ghost use Rattle.saving.specs.Save.{saveOf, saveStrictOf, Saves};
 ghost use Rattle.saving.specs.Inner.{EncodesFirst};
 use encoder::Encoded;
 use tracker::Checked;
@@ -42,7 +42,7 @@ fn encode_kept(seqs: &[u64], secs: &[i64], n: usize, strict: bool, out: &mut [u8
 
 // The bytes that the Rust writes.
 pub fn save(table: SequenceTracker, seqs: &[u64], secs: &[i64], out: &mut [u8]) -> Saved
-    ensures { λ r. ⌜ Saves table (now (seqs .entry)) (now (secs .entry)) (now (out .entry)) r (now (out .exit)) ⌝ }
+    ensures { λ r. ⌜ Saves saveOf table (now (seqs .entry)) (now (secs .entry)) (now (out .entry)) r (now (out .exit)) ⌝ }
 {
     let checked = check(table, seqs, secs);
     match checked {
@@ -56,7 +56,7 @@ pub fn save(table: SequenceTracker, seqs: &[u64], secs: &[i64], out: &mut [u8]) 
 
 // The same bytes, or 20 where other pairs would be read back.
 pub fn save_strict(table: SequenceTracker, seqs: &[u64], secs: &[i64], out: &mut [u8]) -> Saved
-    ensures { λ r. ⌜ SavesStrictly table (now (seqs .entry)) (now (secs .entry)) (now (out .entry)) r (now (out .exit)) ⌝ }
+    ensures { λ r. ⌜ Saves saveStrictOf table (now (seqs .entry)) (now (secs .entry)) (now (out .entry)) r (now (out .exit)) ⌝ }
 {
     let checked = check(table, seqs, secs);
     match checked {

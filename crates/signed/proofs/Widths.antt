@@ -13,7 +13,8 @@ use lib.IntN.{ℤ, pos, negsuc}
 use lib.Signed.{mag, shrZ}
 use mir.Syntax.{w64}
 use mir.Val.{SFits, sel}
-use Rattle.signed.specs.Signed.{signed, pattern, lowBits}
+use Rattle.signed.specs.Signed.{signed, pattern}
+use Rattle.signed.specs.Inner.{lowBits}
 use Rattle.told.specs.Told.{gave, refused}
 use Rattle.signed.specs.Extend.{signedOf, extend, extendRule}
 

@@ -1,2 +1,3 @@
 pub mod Signed
 pub mod Extend
+pub mod Inner

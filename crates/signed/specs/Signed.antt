@@ -27,7 +27,3 @@ subS a b = signed (subW (pattern a) (pattern b))
 
 abbrev pub addS : ℤ → ℤ → ℤ
 addS a b = signed (addW (pattern a) (pattern b))
-
--- the low w bits of z
-abbrev pub lowBits : ℕ → ℤ → ℕ
-lowBits w z = pattern z % 2 ^ w

@@ -1,7 +1,7 @@
 // A step for our own crates: it asks what its caller has tested.
 ghost use mathlib.Core.Path.{_≡_};
 ghost use Prim.Native.Nat.{_≤_};
-ghost use Rattle.signed.specs.Signed.{lowBits};
+ghost use Rattle.signed.specs.Inner.{lowBits};
 use crate::as_unsigned;
 
 // The low `width` bits of a signed number.

@@ -5,13 +5,15 @@ use mathlib.Core.List.{List}
 use lib.IntN.{ℤ}
 use lib.ListN.{length}
 use Rattle.told.specs.Told.{Told}
+use Rattle.told.specs.Over.{filled}
 use Rattle.tracker.specs.declared.SequenceTracker.{SequenceTracker}
 use Rattle.offers.specs.Whole.{Table, whole, Left, Leaves}
 use Rattle.offers.specs.Offer.{offering}
 use Rattle.log.specs.Pairs.{pairsLogOf, extendOf}
-use Rattle.encoder.specs.Encode.{encodedIn}
-use Rattle.saving.specs.Save.{savedIn}
-use Rattle.restoring.specs.Restore.{restoreOf, seqsAfter, secsAfter}
+use Rattle.gorilla.specs.Format.{imageBytes}
+use Rattle.gorilla.specs.Reading.{pairsRead}
+use Rattle.saving.specs.Save.{keptImage}
+use Rattle.restoring.specs.Restore.{readTable, restoreOf}
 use Rattle.answers.specs.Answer.{ofCount}
 use Rattle.answers.specs.declared.Answer.{Answer}
 use Rattle.states.specs.State.{tableOf}
@@ -21,19 +23,19 @@ use Rattle.table_answers.specs.declared.TableAnswer.{TableAnswer}
 
 -- an encoder by its rule
 abbrev pub Encodes : (List ℕ → List ℤ → ℕ → Told ℕ) → List ℕ → List ℤ → List ℕ → Answer → List ℕ → Type 0
-Encodes rule seqs secs out r out′ = (r ≡ ofCount (rule seqs secs (length out))) × (out′ ≡ encodedIn seqs secs (rule seqs secs (length out)) out)
+Encodes rule seqs secs out r out′ = (r ≡ ofCount (rule seqs secs (length out))) × (out′ ≡ filled (rule seqs secs (length out)) (imageBytes seqs secs) out)
 
 -- a save by its rule
 abbrev pub Saves : (SequenceTracker → List ℕ → List ℤ → ℕ → Told ℕ) → State → List ℕ → List ℤ → List ℕ → Answer → List ℕ → Type 0
 Saves rule s seqs secs out r out′ =
     (r ≡ ofCount (rule (tableOf s) seqs secs (length out)))
-    × (out′ ≡ savedIn (tableOf s) seqs secs (rule (tableOf s) seqs secs (length out)) out)
+    × (out′ ≡ filled (rule (tableOf s) seqs secs (length out)) (keptImage (tableOf s) seqs secs) out)
 
 abbrev pub Restores : List ℕ → List ℕ → List ℤ → TableAnswer → List ℕ → List ℤ → Type 0
 Restores bytes seqs secs r seqs′ secs′ =
     (r ≡ ofTable (restoreOf bytes seqs secs))
-    × (seqs′ ≡ seqsAfter bytes (restoreOf bytes seqs secs) seqs)
-    × (secs′ ≡ secsAfter bytes (restoreOf bytes seqs secs) secs)
+    × (seqs′ ≡ filled (restoreOf bytes seqs secs) (pairsRead (readTable bytes) .seqs) seqs)
+    × (secs′ ≡ filled (restoreOf bytes seqs secs) (pairsRead (readTable bytes) .secs) secs)
 
 -- a call on a table, as it crosses: `of` makes the answer of what is told
 abbrev pub Crosses : {A : Type 0} → (A → TableAnswer) → Left A → TableAnswer → List ℕ → List ℤ → Type 0

@@ -5,10 +5,10 @@ use mathlib.Core.List.{List, [], _∷_, _++_, map}
 use lib.ListN.{length, take, replicate}
 use lib.IntN.{ℤ, pos, negℤ}
 use Rattle.told.specs.Told.{Told, gave, refused}
-use Rattle.told.specs.Over.{over}
+use Rattle.told.specs.Over.{over, filled}
 use Rattle.signed.specs.Signed.{signed, subS}
 use Rattle.signed.specs.Extend.{extendRule}
-use Rattle.gorilla.specs.Format.{codeBits}
+use Rattle.gorilla.specs.Format.{codeBits, imageBytes}
 use Rattle.gorilla.specs.Parser.{read}
 use Rattle.gorilla.specs.Reading.{Pairs, readCode}
 use Rattle.limits.specs.Settings.{roomOf}
@@ -21,7 +21,7 @@ use Rattle.lookup.specs.declared.FindOption.{FindOption}
 use Rattle.lookup.specs.declared.FindOption.the-variants.{RoundUp, RoundDown}
 use Rattle.offers.specs.Offer.{skipped, offerTo}
 use Rattle.log.specs.Log.{Log, stopped, logOf}
-use Rattle.encoder.specs.Encode.{lenRule, encodeRule, strictRule, encodedIn}
+use Rattle.encoder.specs.Encode.{lenRule, encodeRule, strictRule}
 use Rattle.decoder.specs.Decode.{decodeRule, seqsAfter, secsAfter}
 use Rattle.offers.specs.Whole.{Table}
 use Rattle.text.specs.Ascii.{ascii}
@@ -44,16 +44,13 @@ pairsIn l = record { seqs = map (λ r. r .seq .0) l; secs = map (λ r. r .ts .0)
 abbrev pub buffer : List ℕ
 buffer = replicate 64 0xFF
 
-abbrev pub oldSeqs : ℕ → List ℕ
-oldSeqs n = replicate n 7
-
-abbrev pub oldSecs : ℕ → List ℤ
-oldSecs n = replicate n (pos 7)
+abbrev pub lent : ℕ → Pairs
+lent n = record { seqs = replicate n 7; secs = replicate n (pos 7) }
 
 -- an empty table of this capacity and interval, in arrays of just the room that it needs, after these offers in order
 abbrev pub offeredAll : ℕ → ℕ → List TrackedSeq → Table
 offeredAll capacity interval l =
-    ranTo (record { state = emptyTable capacity interval; seqs = oldSeqs (roomOf capacity); secs = oldSecs (roomOf capacity) })
+    ranTo (record { state = emptyTable capacity interval; seqs = lent (roomOf capacity) .seqs; secs = lent (roomOf capacity) .secs })
     (map (λ r. offered (r .seq) (r .ts)) l)
 
 -- the first n of P8's offers
@@ -73,30 +70,15 @@ begun count = 0x01 ∷ count ∷ 0 ∷ 0 ∷ 0 ∷ 0 ∷ 0 ∷ 0 ∷ count ∷ [
 
 -- ---- what must come out: kinds of cases that are more than one equation, or stand often
 
--- `encoded_len` of these pairs
-abbrev pub LengthIs : List TrackedSeq → ℕ → Type 0
-LengthIs l n = lenRule (pairsIn l .seqs) (pairsIn l .secs) ≡ gave n
-
 -- `encode` of these pairs writes these bytes over what the buffer held, and no byte past them
 abbrev pub WritesImage : List TrackedSeq → List ℕ → Type 0
 WritesImage l bytes =
     (encodeRule (pairsIn l .seqs) (pairsIn l .secs) (length buffer) ≡ gave (length bytes))
-    × (encodedIn (pairsIn l .seqs) (pairsIn l .secs) (gave (length bytes)) buffer ≡ over bytes buffer)
-
--- `encode_strict` of these pairs
-abbrev pub StrictTells : List TrackedSeq → Told ℕ → Type 0
-StrictTells l told = strictRule (pairsIn l .seqs) (pairsIn l .secs) (length buffer) ≡ told
+    × (filled (gave (length bytes)) (imageBytes (pairsIn l .seqs) (pairsIn l .secs)) buffer ≡ over bytes buffer)
 
 -- `decode` of these bytes into two arrays of so many places
 abbrev pub DecodeTells : ℕ → List ℕ → Told ℕ → Type 0
-DecodeTells room bytes told = decodeRule bytes (oldSeqs room) (oldSecs room) ≡ told
-
--- and it fills in these pairs, over what the arrays held, and no place past them
-abbrev pub DecodesTo : ℕ → List ℕ → List TrackedSeq → Type 0
-DecodesTo room bytes l =
-    DecodeTells room bytes (gave (length l))
-    × (seqsAfter bytes (oldSeqs room) (oldSecs room) ≡ over (pairsIn l .seqs) (oldSeqs room))
-    × (secsAfter bytes (oldSeqs room) (oldSecs room) ≡ over (pairsIn l .secs) (oldSecs room))
+DecodeTells room bytes told = decodeRule bytes (lent room .seqs) (lent room .secs) ≡ told
 
 -- a table keeps these pairs, and this is the last recorded second
 abbrev pub Keeps : Table → List TrackedSeq → ℕ → Type 0
@@ -116,9 +98,9 @@ pub record Cases : Type 0 where
   -- Extension of 64 in 7 bits is -64; of 63 it is 63
   pub extension : (extendRule 64 7 ≡ gave (negℤ (pos 64))) × (extendRule 63 7 ≡ gave (pos 63))
   -- empty image: 01 and twelve 00, length 13
-  pub P1 : WritesImage [] (0x01 ∷ replicate 12 0x00) × LengthIs [] 13
+  pub P1 : WritesImage [] (0x01 ∷ replicate 12 0x00) × (lenRule [] [] ≡ gave 13)
   -- sequence 5, second 60: length 29
-  pub P2 : LengthIs (pair 5 60 ∷ []) 29
+  pub P2 : lenRule (5 ∷ []) (pos 60 ∷ []) ≡ gave 29
   -- d = 63: 9 bits; 64: 12
   pub P3 : (length (codeBits (pos 63)) ≡ 9) × (length (codeBits (pos 64)) ≡ 12)
   -- d = -64: 110 111000000; -256: 16 bits; -2048: 36
@@ -130,11 +112,14 @@ pub record Cases : Type 0 where
   -- the listing of P5
   pub listing : listingOf (fifth 0x00 0x00) ≡ ascii "entries 2\n0 100 0\n1 164 60\n"
   -- padding values are ignored
-  pub padding : DecodesTo 3 (fifth 0x0F 0x7F) (pair 100 0 ∷ pair 164 60 ∷ [])
+  pub padding :
+      DecodeTells 3 (fifth 0x0F 0x7F) (gave 2)
+      × (seqsAfter (fifth 0x0F 0x7F) (lent 3 .seqs) (lent 3 .secs) ≡ 100 ∷ 164 ∷ 7 ∷ [])
+      × (secsAfter (fifth 0x0F 0x7F) (lent 3 .seqs) (lent 3 .secs) ≡ pos 0 ∷ pos 60 ∷ pos 7 ∷ [])
   -- sequences 0, 1, seconds 0, 2147483648: strict 20, seconds (array 1), index 1; 2147483647 is written (36 bytes)
-  pub P6 : StrictTells (pair 0 0 ∷ pair 1 2147483648 ∷ []) (refused (20 ∷ 1 ∷ 1 ∷ [])) × StrictTells (pair 0 0 ∷ pair 1 2147483647 ∷ []) (gave 36)
+  pub P6 : (strictRule (0 ∷ 1 ∷ []) (pos 0 ∷ pos 2147483648 ∷ []) 64 ≡ refused (20 ∷ 1 ∷ 1 ∷ [])) × (strictRule (0 ∷ 1 ∷ []) (pos 0 ∷ pos 2147483647 ∷ []) 64 ≡ gave 36)
   -- sequences 0, 18446744073709551615, seconds 0, 0: d = -1, 9 bits, written strictly (32 bytes)
-  pub P7 : (subS (subS (signed 18446744073709551615) (signed 0)) (pos 0) ≡ negℤ (pos 1)) × (length (codeBits (negℤ (pos 1))) ≡ 9) × StrictTells (pair 0 0 ∷ pair 18446744073709551615 0 ∷ []) (gave 32)
+  pub P7 : (subS (subS (signed 18446744073709551615) (signed 0)) (pos 0) ≡ negℤ (pos 1)) × (length (codeBits (negℤ (pos 1))) ≡ 9) × (strictRule (0 ∷ 18446744073709551615 ∷ []) (pos 0 ∷ pos 0 ∷ []) 64 ≡ gave 32)
   -- capacity 4, interval 0, (1,10),(2,20),(3,30),(4,40),(5,50): (1,10),(3,30),(5,50)
   pub P8 : Keeps (offeredAll 4 0 (firstOf 5)) (pair 1 10 ∷ pair 3 30 ∷ pair 5 50 ∷ []) 50
   -- capacity 3, first four: (1,10),(3,30), last recorded 40; then (3,45) is recorded and (9,39), offered instead, skipped

@@ -6,10 +6,10 @@ use mathlib.Core.List.{List, [], _∷_, _++_}
 use lib.ListN.{length, take, getD}
 use lib.IntN.{ℤ}
 use Rattle.told.specs.Told.{Told, gave, refused}
+use Rattle.told.specs.Over.{over, filled}
 use Rattle.gorilla.specs.BitList.{bitsOf}
-use Rattle.gorilla.specs.Format.{imageBytes}
 use Rattle.gorilla.specs.Parser.{Read, read}
-use Rattle.gorilla.specs.Reading.{Pairs}
+use Rattle.gorilla.specs.Reading.{Pairs, pairsRead}
 use Rattle.fresh.specs.Fresh.{newTable}
 use Rattle.tracker.specs.Table.{kept}
 use Rattle.tracker.specs.declared.Seq.{Seq}
@@ -23,8 +23,8 @@ use Rattle.offers.specs.Offer.{Outcome, offerTo, offeredTo}
 use Rattle.log.specs.Log.{Log, done, stopped, logOf}
 use Rattle.log.specs.Pairs.{pairsLogOf, extendOf}
 use Rattle.decoder.specs.Decode.{listed}
-use Rattle.saving.specs.Save.{saveStrictOf, saveOf, savedIn}
-use Rattle.restoring.specs.Restore.{restoreOf, seqsAfter, secsAfter}
+use Rattle.saving.specs.Save.{saveStrictOf, saveOf, keptImage}
+use Rattle.restoring.specs.Restore.{readTable, restoreOf}
 
 -- as `new` makes it, in two arrays that hold what they hold
 abbrev pub new : List ℕ → List ℤ → Table
@@ -50,9 +50,9 @@ strictTo w out = saveStrictOf (w .state) (w .seqs) (w .secs) (length out)
 abbrev pub saveTo : Table → List ℕ → Told ℕ
 saveTo w out = saveOf (w .state) (w .seqs) (w .secs) (length out)
 
--- the buffer after a save that tells this
-abbrev pub savedTo : Table → Told ℕ → List ℕ → List ℕ
-savedTo w told out = savedIn (w .state) (w .seqs) (w .secs) told out
+-- the image of the kept pairs, which a save writes
+abbrev pub imageFor : Table → List ℕ
+imageFor w = keptImage (w .state) (w .seqs) (w .secs)
 
 -- the bytes written to a buffer: as many as are told
 abbrev pub written : Told ℕ → List ℕ → List ℕ
@@ -61,17 +61,21 @@ written (refused what) out = []
 
 -- the bytes that such a save writes, and others after them
 abbrev pub stored : (Table → List ℕ → Told ℕ) → Table → Reload → List ℕ
-stored save w l = written (save w (l .out)) (savedTo w (save w (l .out)) (l .out)) ++ l .following
+stored save w l = written (save w (l .out)) (filled (save w (l .out)) (imageFor w) (l .out)) ++ l .following
 
 -- what `restore` tells of what a strict save wrote
 abbrev pub restoreTo : Table → Reload → Told SequenceTracker
 restoreTo w l = restoreOf (stored strictTo w l) (l .seqs) (l .secs)
 
+-- the pairs that it reads
+abbrev pub readFor : Table → Reload → Pairs
+readFor w l = pairsRead (readTable (stored strictTo w l))
+
 -- the table after a strict save and a restore that tell this: a refused save leaves it standing; a refused restore leaves none, and a new one is begun
 abbrev pub reloadedTo : Table → Reload → Told ℕ → Told SequenceTracker → Table
 reloadedTo w l (refused what) told = w
 reloadedTo w l (gave n) (refused what) = new (l .seqs) (l .secs)
-reloadedTo w l (gave n) (gave t) = whole t (seqsAfter (stored strictTo w l) (gave t) (l .seqs)) (secsAfter (stored strictTo w l) (gave t) (l .secs))
+reloadedTo w l (gave n) (gave t) = whole t (over (readFor w l .seqs) (l .seqs)) (over (readFor w l .secs) (l .secs))
 
 -- ---- a run
 
@@ -128,10 +132,6 @@ SameLog w l v m = (l .answer ≡ m .answer) × (keptIn (loggedTo w l) ≡ keptIn
 
 -- ---- when a strict save is refused
 
--- the image of the kept pairs
-abbrev pub imageFor : Table → List ℕ
-imageFor w = imageBytes (keptIn w .seqs) (keptIn w .secs)
-
 -- what the list reader reads of what the Rust's save wrote
 abbrev pub readBack : Table → Reload → Read Pairs
 readBack w l = listed (stored saveTo w l) (l .seqs) (l .secs)
@@ -158,8 +158,8 @@ pub record Unharmed (w v : Table) : Type 0 where
   pub by-seq : (x : Seq) (opt : FindOption) → findTs (w .state) (w .seqs) (w .secs) x opt ≡ findTs (v .state) (v .seqs) (v .secs) x opt
   pub by-second : (x : Second) (opt : FindOption) → findSeq (w .state) (w .seqs) (w .secs) x opt ≡ findSeq (v .state) (v .seqs) (v .secs) x opt
   -- each save, strict or not, and the buffer after it
-  pub by-strict : (out : List ℕ) → (strictTo w out ≡ strictTo v out) × (savedTo w (strictTo w out) out ≡ savedTo v (strictTo v out) out)
-  pub by-save : (out : List ℕ) → (saveTo w out ≡ saveTo v out) × (savedTo w (saveTo w out) out ≡ savedTo v (saveTo v out) out)
+  pub by-strict : (out : List ℕ) → (strictTo w out ≡ strictTo v out) × (filled (strictTo w out) (imageFor w) out ≡ filled (strictTo v out) (imageFor v) out)
+  pub by-save : (out : List ℕ) → (saveTo w out ≡ saveTo v out) × (filled (saveTo w out) (imageFor w) out ≡ filled (saveTo v out) (imageFor v) out)
   -- restore never refuses what a strict save wrote: it gives back the state and the pairs
   pub restores : (l : Reload) (n : ℕ) → Lent (l .seqs) (l .secs) → strictTo w (l .out) ≡ gave n
       → (restoreTo w l ≡ gave (w .state)) × (keptIn (step w (reloaded l)) ≡ keptIn w)

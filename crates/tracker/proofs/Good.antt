@@ -12,15 +12,19 @@ use lib.ListN.{length}
 use lib.Seq.{length-take-le}
 use lib.Signed.{ltZ}
 use Rattle.told.specs.Told.{Told, gave, refused}
+use Rattle.limits.specs.Domain.{outside}
 use Rattle.limits.specs.Settings.{roomOf}
 use Rattle.order.specs.First.{first}
 use Rattle.order.specs.Order.{drops, secOutside}
 use Rattle.order.specs.Inner.{NoneBelow}
 use Rattle.order.proofs.Bools.{neither, passed}
-use Rattle.order.proofs.First.{first-most, first-out, first-none}
-use Rattle.tracker.specs.Table.{lastMisplaced, lastOutside, lastBelow, disagrees, brokenAt, pairsOf, checkOf}
+use Rattle.order.proofs.First.{first-out, first-none}
+use Rattle.tracker.specs.Table.{lastWrong, disagrees, pairsOf, checkOf}
+use Rattle.tracker.specs.Inner.{lastMisplaced, lastOutside, lastBelow}
 use Rattle.tracker.specs.Laws.{KeepsPairs}
 use Rattle.tracker.specs.declared.SequenceTracker.{SequenceTracker}
+use Rattle.tracker.specs.declared.LastRecorded.{LastRecorded}
+use Rattle.tracker.specs.declared.LastRecorded.the-variants.{Never, At}
 
 -- the room is at least the capacity, and at least 1
 pub room-is : (c m : ℕ) → roomOf c ≤ m → (c ≤ m) × (0 < m)
@@ -48,6 +52,18 @@ pub record Agreed (table : SequenceTracker) (seqs : List ℕ) (secs : List ℤ) 
   pub last-inside : lastOutside (table .«last_recorded_ts») ≡ false
   pub last-above : lastBelow (table .«last_recorded_ts») secs (table .count) ≡ false
 
+-- the last recorded second is not wrong: each part of the rule
+last-parts : (l : LastRecorded) (secs : List ℤ) (n : ℕ) → lastWrong l secs n ≡ false → (lastMisplaced l n ≡ false) × (lastOutside l ≡ false) × (lastBelow l secs n ≡ false)
+last-parts Never secs n h = (h, refl, refl)
+last-parts (At s) secs n h =
+    let below = neither (eqb n 0 || outside (s .0)) _ h in
+    let placed = neither (eqb n 0) (outside (s .0)) (below .0) in
+    (placed .0, placed .1, below .1)
+
+last-right : (l : LastRecorded) (secs : List ℤ) (n : ℕ) → lastMisplaced l n ≡ false → lastOutside l ≡ false → lastBelow l secs n ≡ false → lastWrong l secs n ≡ false
+last-right Never secs n placed inside above = placed
+last-right (At s) secs n placed inside above = rw (placed, inside) above
+
 module _ (table : SequenceTracker) (seqs : List ℕ) (secs : List ℤ) where
   pub agreed : disagrees table seqs secs ≡ false → Agreed table seqs secs
   agreed h =
@@ -58,12 +74,8 @@ module _ (table : SequenceTracker) (seqs : List ℕ) (secs : List ℤ) where
       let b = ltb (length seqs) room in
       let c = ltb (length secs) room in
       let d = ltb room (table .count) in
-      let e = lastMisplaced last (table .count) in
-      let f = lastOutside last in
-      let g = lastBelow last secs (table .count) in
-      let hg = neither (a0 || a1 || b || c || d || e || f) g h in
-      let hf = neither (a0 || a1 || b || c || d || e) f (hg .0) in
-      let he = neither (a0 || a1 || b || c || d) e (hf .0) in
+      let he = neither (a0 || a1 || b || c || d) (lastWrong last secs (table .count)) h in
+      let parts = last-parts last secs (table .count) (he .1) in
       let hd = neither (a0 || a1 || b || c) d (he .0) in
       let hc = neither (a0 || a1 || b) c (hd .0) in
       let hb = neither (a0 || a1) b (hc .0) in
@@ -74,15 +86,15 @@ module _ (table : SequenceTracker) (seqs : List ℕ) (secs : List ℤ) where
         fit-seqs = ltb-false (length seqs) room (hb .1);
         fit-secs = ltb-false (length secs) room (hc .1);
         count-room = ltb-false room (table .count) (hd .1);
-        last-placed = he .1;
-        last-inside = hf .1;
-        last-above = hg .1;
+        last-placed = parts .0;
+        last-inside = parts .1;
+        last-above = parts .2;
       }
 
   pub agreed-again : Agreed table seqs secs → disagrees table seqs secs ≡ false
   agreed-again a =
       let room = roomOf (table .capacity) in
-      rw (le-ltb 8192 (table .capacity) (a .capacity-ok), le-ltb 9223372036854775807 (table .«interval_secs») (a .interval-ok), le-ltb (length seqs) room (a .fit-seqs), le-ltb (length secs) room (a .fit-secs), le-ltb room (table .count) (a .count-room), a .last-placed, a .last-inside) (a .last-above)
+      rw (le-ltb 8192 (table .capacity) (a .capacity-ok), le-ltb 9223372036854775807 (table .«interval_secs») (a .interval-ok), le-ltb (length seqs) room (a .fit-seqs), le-ltb (length secs) room (a .fit-secs), le-ltb room (table .count) (a .count-room)) (last-right (table .«last_recorded_ts») secs (table .count) (a .last-placed) (a .last-inside) (a .last-above))
 
   module _ (a : Agreed table seqs secs) where
     pub few : table .count ≤ 8192
@@ -99,23 +111,6 @@ module _ (table : SequenceTracker) (seqs : List ℕ) (secs : List ℤ) where
 
     pub capacity-secs : (table .capacity ≤ length secs) × (0 < length secs)
     capacity-secs = room-is (table .capacity) (length secs) (a .fit-secs)
-
--- a second out of domain is told only where none drops: it is enough to look before the first that does
-module _ (t u : ℕ → Bool) (n : ℕ) where
-  before-drop : brokenAt 12 (first t n) n (brokenAt 13 (first u (first t n)) n (gave tt)) ≡ brokenAt 12 (first t n) n (brokenAt 13 (first u n) n (gave tt))
-  before-drop = go (ltb (first t n) n) refl
-    where
-      go : (b : Bool) → ltb (first t n) n ≡ b → cond b (refused (12 ∷ first t n ∷ [])) (brokenAt 13 (first u (first t n)) n (gave tt)) ≡ cond b (refused (12 ∷ first t n ∷ [])) (brokenAt 13 (first u n) n (gave tt))
-      go true e = refl
-      go false e =
-          let whole : first t n ≡ n = omega (arith, ltb-false (first t n) n e, first-most t n) in
-          ap (λ k. brokenAt 13 (first u k) n (gave tt)) whole
-
--- what is told of the three indices is what is told of the pairs
-pub as-told : (seqs : List ℕ) (secs : List ℤ) (n a b d : ℕ) (w : Told (Unit {0})) → a ≡ first (drops ltb 0 seqs) n → b ≡ first (drops ltZ (pos 0) secs) n → d ≡ first (secOutside secs) b
-    → w ≡ brokenAt 11 a n (brokenAt 12 b n (brokenAt 13 d n (gave tt))) → w ≡ pairsOf seqs secs n
-as-told seqs secs n a b d w ea eb ed e =
-    e ∙ rw (ea, ed, eb) (ap (brokenAt 11 (first (drops ltb 0 seqs) n) n) (before-drop (drops ltZ (pos 0) secs) (secOutside secs) n))
 
 -- the first n pairs are in order and in the domain
 pub record Sorted (seqs : List ℕ) (secs : List ℤ) (n : ℕ) : Type 0 where

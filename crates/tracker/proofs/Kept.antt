@@ -1,6 +1,6 @@
 -- A check depends on the state, on the kept pairs and on whether the arrays have the room, not on what stands past the count.
 use mathlib.Core.Path.{_≡_, refl, sym, ap, _∙_}
-use mathlib.Core.Bool.{Bool, true, false, _||_}
+use mathlib.Core.Bool.{Bool}
 use mathlib.Core.List.{List}
 use Prim.Native.Nat.{ℕ, zero, suc, _-_, _<_}
 use native.Mathlib.Omega.{arith}
@@ -13,7 +13,7 @@ use Rattle.limits.specs.Settings.{roomOf}
 use Rattle.order.specs.First.{first}
 use Rattle.order.specs.Order.{drops, secOutside}
 use Rattle.order.proofs.First.{first-same}
-use Rattle.tracker.specs.Table.{kept, lastMisplaced, lastOutside, lastBelow, pairsOf, checkOf}
+use Rattle.tracker.specs.Table.{kept, lastWrong, pairsOf, checkOf}
 use Rattle.tracker.specs.declared.SequenceTracker.{SequenceTracker}
 use Rattle.tracker.specs.declared.LastRecorded.{LastRecorded}
 use Rattle.tracker.specs.declared.LastRecorded.the-variants.{Never, At}
@@ -32,17 +32,15 @@ module _ (n : ℕ) where
   pub pairs-kept : (seqs seqs′ : List ℕ) (secs secs′ : List ℤ) → take n seqs ≡ take n seqs′ → take n secs ≡ take n secs′ → pairsOf seqs secs n ≡ pairsOf seqs′ secs′ n
   pairs-kept seqs seqs′ secs secs′ e f = rw (kept-drop ltb 0 seqs seqs′ e, kept-drop ltZ (pos 0) secs secs′ f, kept-outside secs secs′ f)
 
--- rule 14's part on the last recorded second, after any part a
-last-kept : (a : Bool) (l : LastRecorded) (n : ℕ) (secs secs′ : List ℤ) → take n secs ≡ take n secs′
-    → a || lastMisplaced l n || lastOutside l || lastBelow l secs n ≡ a || lastMisplaced l n || lastOutside l || lastBelow l secs′ n
-last-kept a Never n secs secs′ e = refl
-last-kept true (At s) zero secs secs′ e = refl
-last-kept false (At s) zero secs secs′ e = refl
-last-kept a (At s) (suc m) secs secs′ e = rw (kept-at (suc m) secs secs′ (suc m - 1) (pos 0) e (omega arith))
+-- rule 14's part on the last recorded second
+last-kept : (l : LastRecorded) (n : ℕ) (secs secs′ : List ℤ) → take n secs ≡ take n secs′ → lastWrong l secs n ≡ lastWrong l secs′ n
+last-kept Never n secs secs′ e = refl
+last-kept (At s) zero secs secs′ e = refl
+last-kept (At s) (suc m) secs secs′ e = rw (kept-at (suc m) secs secs′ (suc m - 1) (pos 0) e (omega arith))
 
 module _ (table : SequenceTracker) (seqs seqs′ : List ℕ) (secs secs′ : List ℤ) where
   pub check-kept : kept table seqs ≡ kept table seqs′ → kept table secs ≡ kept table secs′
       → ltb (length seqs) (roomOf (table .capacity)) ≡ ltb (length seqs′) (roomOf (table .capacity))
       → ltb (length secs) (roomOf (table .capacity)) ≡ ltb (length secs′) (roomOf (table .capacity))
       → checkOf table seqs secs ≡ checkOf table seqs′ secs′
-  check-kept e f p q = rw (p, q, last-kept _ (table .«last_recorded_ts») (table .count) secs secs′ f, pairs-kept (table .count) seqs seqs′ secs secs′ e f)
+  check-kept e f p q = rw (p, q, last-kept (table .«last_recorded_ts») (table .count) secs secs′ f, pairs-kept (table .count) seqs seqs′ secs secs′ e f)

@@ -1,3 +1,4 @@
 pub mod Refusal
 pub mod Table
 pub mod Laws
+pub mod Inner

@@ -1,6 +1,6 @@
 -- Rules 14, 11, 12 and 13: when a table is good.
 use Prim.Native.Nat.{ℕ, _-_}
-use mathlib.Core.Bool.{Bool, false, not, cond, _||_}
+use mathlib.Core.Bool.{Bool, not, cond, _||_}
 use mathlib.Core.List.{List, [], _∷_}
 use lib.ListN.{length, getD, take}
 use lib.Dec.{ltb, eqb}
@@ -19,20 +19,10 @@ use Rattle.tracker.specs.declared.LastRecorded.the-variants.{Never, At}
 abbrev pub kept : {A : Type 0} → SequenceTracker → List A → List A
 kept table xs = take (table .count) xs
 
--- a last recorded second present with count 0 or absent otherwise
-abbrev pub lastMisplaced : LastRecorded → ℕ → Bool
-lastMisplaced Never count = not (eqb count 0)
-lastMisplaced (At s) count = eqb count 0
-
--- one out of domain
-abbrev pub lastOutside : LastRecorded → Bool
-lastOutside Never = false
-lastOutside (At s) = outside (s .0)
-
--- one below the last kept second
-abbrev pub lastBelow : LastRecorded → List ℤ → ℕ → Bool
-lastBelow Never secs count = false
-lastBelow (At s) secs count = ltZ (s .0) (getD secs (count - 1) (pos 0))
+-- the last recorded second: absent though pairs are kept; or present with count 0, out of domain, or below the last kept second
+abbrev pub lastWrong : LastRecorded → List ℤ → ℕ → Bool
+lastWrong Never secs count = not (eqb count 0)
+lastWrong (At s) secs count = eqb count 0 || outside (s .0) || ltZ (s .0) (getD secs (count - 1) (pos 0))
 
 -- 14: settings invalid; an array shorter than the room needed; count above that room;
 -- a last recorded second present with count 0 or absent otherwise; or one out of domain or below the last kept second
@@ -42,9 +32,7 @@ disagrees table seqs secs =
     || ltb (length seqs) (roomOf (table .capacity))
     || ltb (length secs) (roomOf (table .capacity))
     || ltb (roomOf (table .capacity)) (table .count)
-    || lastMisplaced (table .«last_recorded_ts») (table .count)
-    || lastOutside (table .«last_recorded_ts»)
-    || lastBelow (table .«last_recorded_ts») secs (table .count)
+    || lastWrong (table .«last_recorded_ts») secs (table .count)
 
 -- a rule is broken at i, where i is below n
 abbrev pub brokenAt : ℕ → ℕ → ℕ → Told (Unit {0}) → Told (Unit {0})

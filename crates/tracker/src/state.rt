@@ -1,6 +1,5 @@
 // Whether state and arrays disagree.
 ghost use mathlib.Core.Path.{_≡_};
-ghost use mathlib.Core.Bool.{_||_};
 ghost use Prim.Native.Nat.{_≤_};
 ghost use lib.ListN.{length};
 ghost use Rattle.tracker.specs.Table as rules;
@@ -9,7 +8,7 @@ use crate::SequenceTracker;
 
 fn last_wrong(last: LastRecorded, secs: &[i64], n: usize) -> bool
     requires { ⌜ n ≤ length (now secs) ⌝ }
-    ensures { λ r. ⌜ r ≡ rules.lastMisplaced last n || rules.lastOutside last || rules.lastBelow last (now (secs .entry)) n ⌝ }
+    ensures { λ r. ⌜ r ≡ rules.lastWrong last (now (secs .entry)) n ⌝ }
 {
     match last {
         LastRecorded::Never => n != 0,

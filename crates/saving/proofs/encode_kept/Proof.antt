@@ -5,7 +5,9 @@ use lib.ListN.{take}
 use lib.Seq.{length-take-le}
 use borrow.Author.Needs.{needs}
 use Rattle.told.specs.Told.{Told}
-use Rattle.encoder.specs.Encode.{toldEncode, encodedIn}
+use Rattle.told.specs.Over.{filled}
+use Rattle.gorilla.specs.Format.{imageBytes}
+use Rattle.encoder.specs.Encode.{toldEncode}
 use Rattle.saving.proofs.encode_kept.Statement.{statement}
 use Rattle.saving.proofs.encode_kept.Tie as tie
 
@@ -47,7 +49,7 @@ returns c =
     let called = c .before .before .before .before .before in
     let at = called .before .before .before .before .before .before .before .args in
     let told = sym (ap toldEncode (c .before .bytes .given .1)) ∙ called .encode-strict .ensures .0 in
-    (rw (called .before .before .before .before .if1 .taken) told, called .encode-strict .ensures .1 ∙ ap (λ (w : Told ℕ). encodedIn (take (at .n) (at .seqs .now)) (take (at .n) (at .secs .now)) w (at .out .now)) (sym told))
+    (rw (called .before .before .before .before .if1 .taken) told, called .encode-strict .ensures .1 ∙ ap (λ (w : Told ℕ). filled w (imageBytes (take (at .n) (at .seqs .now)) (take (at .n) (at .secs .now))) (at .out .now)) (sym told))
 
 same-length-2 : tie.Need-same-length-2
 same-length-2 c = search needs
@@ -57,7 +59,7 @@ returns-2 c =
     let called = c .before .before .before .before .before in
     let at = called .before .before .before .before .before .before .before .args in
     let told = sym (ap toldEncode (c .before .why .given .1)) ∙ called .encode-strict .ensures .0 in
-    (rw (called .before .before .before .before .if1 .taken) told, called .encode-strict .ensures .1 ∙ ap (λ (w : Told ℕ). encodedIn (take (at .n) (at .seqs .now)) (take (at .n) (at .secs .now)) w (at .out .now)) (sym told))
+    (rw (called .before .before .before .before .if1 .taken) told, called .encode-strict .ensures .1 ∙ ap (λ (w : Told ℕ). filled w (imageBytes (take (at .n) (at .seqs .now)) (take (at .n) (at .secs .now))) (at .out .now)) (sym told))
 
 same-length-3 : tie.Need-same-length-3
 same-length-3 c = search needs
@@ -67,7 +69,7 @@ returns-3 c =
     let called = c .before .before .before .before .before in
     let at = called .before .before .before .before .before .before .before .args in
     let told = sym (ap toldEncode (c .before .bytes2 .given .1)) ∙ called .encode .ensures .0 in
-    (rw (called .before .before .before .before .if1 .left) told, called .encode .ensures .1 ∙ ap (λ (w : Told ℕ). encodedIn (take (at .n) (at .seqs .now)) (take (at .n) (at .secs .now)) w (at .out .now)) (sym told))
+    (rw (called .before .before .before .before .if1 .left) told, called .encode .ensures .1 ∙ ap (λ (w : Told ℕ). filled w (imageBytes (take (at .n) (at .seqs .now)) (take (at .n) (at .secs .now))) (at .out .now)) (sym told))
 
 same-length-4 : tie.Need-same-length-4
 same-length-4 c = search needs
@@ -77,7 +79,7 @@ returns-4 c =
     let called = c .before .before .before .before .before in
     let at = called .before .before .before .before .before .before .before .args in
     let told = sym (ap toldEncode (c .before .why2 .given .1)) ∙ called .encode .ensures .0 in
-    (rw (called .before .before .before .before .if1 .left) told, called .encode .ensures .1 ∙ ap (λ (w : Told ℕ). encodedIn (take (at .n) (at .seqs .now)) (take (at .n) (at .secs .now)) w (at .out .now)) (sym told))
+    (rw (called .before .before .before .before .if1 .left) told, called .encode .ensures .1 ∙ ap (λ (w : Told ℕ). filled w (imageBytes (take (at .n) (at .seqs .now)) (take (at .n) (at .secs .now))) (at .out .now)) (sym told))
 
 pub encode-kept-spec : {M : Type 1} → statement M
 encode-kept-spec =

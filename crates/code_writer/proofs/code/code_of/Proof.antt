@@ -4,7 +4,7 @@ use mathlib.Core.Path.{_≡_, sym, ap, _∙_, subst}
 use lib.IntN.{ℤ}
 use mir.Facts.{toZ-ofZ}
 use Rattle.gorilla.specs.declared.Row.{Row}
-use Rattle.signed.specs.Signed.{lowBits}
+use Rattle.signed.specs.Inner.{lowBits}
 use Rattle.gorilla.specs.Rows.{rowOf}
 use Rattle.gorilla.proofs.Putting.{narrow}
 use Rattle.code_writer.specs.declared.Held.{Held}

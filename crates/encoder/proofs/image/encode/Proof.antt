@@ -5,9 +5,10 @@ use mathlib.Core.List.{List}
 use lib.ListN.{length}
 use lib.IntN.{ℤ}
 use Rattle.told.specs.Told.{Told}
+use Rattle.told.specs.Over.{filled}
 use Rattle.gorilla.specs.Format.{imageBytes}
 use Rattle.encoder.specs.declared.EncodedLen.the-variants.{Bytes}
-use Rattle.encoder.specs.Encode.{toldLen, encodedIn, roomRule}
+use Rattle.encoder.specs.Encode.{toldLen, roomRule}
 use Rattle.encoder.proofs.Rules.{Passed, len-given, len-refused, passed}
 use Rattle.encoder.proofs.image.encode.Statement.{statement}
 use Rattle.encoder.proofs.image.encode.Tie as tie
@@ -47,7 +48,7 @@ returns c =
     let out = (st-of e) .args .out .now in
     let p = passed-is e _ (b .most .given .1) in
     let r = sym (passed (seqs-of e) (secs-of e) (roomRule (length (imageBytes (seqs-of e) (secs-of e))) (length out)) (p .same) (p .few)) in
-    (wr .write-if-room .ensures .0 ∙ r, wr .write-if-room .ensures .1 ∙ ap (λ (t : Told ℕ). encodedIn (seqs-of e) (secs-of e) t out) r)
+    (wr .write-if-room .ensures .0 ∙ r, wr .write-if-room .ensures .1 ∙ ap (λ (t : Told ℕ). filled t (imageBytes (seqs-of e) (secs-of e)) out) r)
 
 returns-2 : tie.Need-returns-2
 returns-2 c =
@@ -55,7 +56,7 @@ returns-2 c =
     let e = rf .before .before in
     let out = (st-of e) .args .out .now in
     let r = len-refused (seqs-of e) (secs-of e) _ _ (roomRule (length (imageBytes (seqs-of e) (secs-of e))) (length out)) (ap toldLen (sym (rf .refusal .given .1)) ∙ e .most-bytes .ensures) in
-    (r, ap (λ (t : Told ℕ). encodedIn (seqs-of e) (secs-of e) t out) r)
+    (r, ap (λ (t : Told ℕ). filled t (imageBytes (seqs-of e) (secs-of e)) out) r)
 
 pub encode-spec : {M : Type 1} → statement M
 encode-spec =

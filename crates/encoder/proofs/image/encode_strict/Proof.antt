@@ -6,11 +6,12 @@ use mathlib.Core.List.{List}
 use lib.ListN.{length}
 use lib.IntN.{ℤ}
 use Rattle.told.specs.Told.{Told}
+use Rattle.told.specs.Over.{filled}
 use Rattle.gorilla.specs.Format.{imageBytes}
 use Rattle.gorilla.specs.Wide.{Wide, wideOf}
 use Rattle.strict.specs.Inner.{foundWide}
 use Rattle.encoder.specs.declared.EncodedLen.the-variants.{Bytes}
-use Rattle.encoder.specs.Encode.{toldLen, encodedIn, arraysRule, wideRule, roomRule}
+use Rattle.encoder.specs.Encode.{toldLen, arraysRule, wideRule, roomRule}
 use Rattle.encoder.proofs.Rules.{Passed, len-given, len-refused, passed}
 use Rattle.encoder.proofs.image.encode_strict.Statement.{statement}
 use Rattle.encoder.proofs.image.encode_strict.Tie as tie
@@ -77,7 +78,7 @@ returns c =
     let b = fw .before .before in
     let e = b .before .before in
     let r = strict-is b _ (ap foundWide (sym (et .enum-told .given .1)) ∙ fw .first-wide .ensures) in
-    (wr .write-if-room .ensures .0 ∙ r, wr .write-if-room .ensures .1 ∙ ap (λ (t : Told ℕ). encodedIn (seqs-of e) (secs-of e) t (out-of e)) r)
+    (wr .write-if-room .ensures .0 ∙ r, wr .write-if-room .ensures .1 ∙ ap (λ (t : Told ℕ). filled t (imageBytes (seqs-of e) (secs-of e)) (out-of e)) r)
 
 returns-2 : tie.Need-returns-2
 returns-2 c =
@@ -86,14 +87,14 @@ returns-2 c =
     let b = fw .before .before in
     let e = b .before .before in
     let r = strict-is b _ (ap foundWide (sym (aa .a .given .1)) ∙ fw .first-wide .ensures) in
-    (r, ap (λ (t : Told ℕ). encodedIn (seqs-of e) (secs-of e) t (out-of e)) r)
+    (r, ap (λ (t : Told ℕ). filled t (imageBytes (seqs-of e) (secs-of e)) (out-of e)) r)
 
 returns-3 : tie.Need-returns-3
 returns-3 c =
     let rf = c .before in
     let e = rf .before .before in
     let r = len-refused (seqs-of e) (secs-of e) _ _ (wideRule (wideOf (seqs-of e) (secs-of e)) (room-of e)) (ap toldLen (sym (rf .refusal .given .1)) ∙ e .most-bytes .ensures) in
-    (r, ap (λ (t : Told ℕ). encodedIn (seqs-of e) (secs-of e) t (out-of e)) r)
+    (r, ap (λ (t : Told ℕ). filled t (imageBytes (seqs-of e) (secs-of e)) (out-of e)) r)
 
 pub encode-strict-spec : {M : Type 1} → statement M
 encode-strict-spec =

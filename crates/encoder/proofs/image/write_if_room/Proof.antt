@@ -6,8 +6,9 @@ use mathlib.Core.List.{List}
 use lib.ListN.{length}
 use lib.IntN.{ℤ}
 use Rattle.told.specs.Told.{Told, gave, refused}
+use Rattle.told.specs.Over.{filled}
 use Rattle.gorilla.specs.Format.{imageBytes}
-use Rattle.encoder.specs.Encode.{encodedIn, roomRule}
+use Rattle.encoder.specs.Encode.{roomRule}
 use Rattle.encoder.proofs.Rules.{no-room, enough}
 use Rattle.lengths.proofs.Whole.{image-most}
 use Rattle.encoder.proofs.image.write_if_room.Statement.{statement}
@@ -21,9 +22,9 @@ bytes-of k = length (imageBytes ((st-of k) .args .seqs .now) ((st-of k) .args .s
 
 -- the buffer, once told what the rule tells
 settled : (k : tie.After-slice-known) (t : Told ℕ) → t ≡ roomRule (bytes-of k) (length ((st-of k) .args .out .now))
-    → encodedIn ((st-of k) .args .seqs .now) ((st-of k) .args .secs .now) t ((st-of k) .args .out .now)
-    ≡ encodedIn ((st-of k) .args .seqs .now) ((st-of k) .args .secs .now) (roomRule (bytes-of k) (length ((st-of k) .args .out .now))) ((st-of k) .args .out .now)
-settled k t r = ap (λ (u : Told ℕ). encodedIn ((st-of k) .args .seqs .now) ((st-of k) .args .secs .now) u ((st-of k) .args .out .now)) r
+    → filled t (imageBytes ((st-of k) .args .seqs .now) ((st-of k) .args .secs .now)) ((st-of k) .args .out .now)
+    ≡ filled (roomRule (bytes-of k) (length ((st-of k) .args .out .now))) (imageBytes ((st-of k) .args .seqs .now) ((st-of k) .args .secs .now)) ((st-of k) .args .out .now)
+settled k t r = ap (λ (u : Told ℕ). filled u (imageBytes ((st-of k) .args .seqs .now) ((st-of k) .args .secs .now)) ((st-of k) .args .out .now)) r
 
 room : (t : tie.Then1) → bytes-of (t .before) ≤ length ((st-of (t .before)) .args .out .now)
 room t =

@@ -9,7 +9,7 @@ use borrow.Author.Tests.{lt-ltb}
 use lib.IntN.{pos}
 use Rattle.signed.specs.Signed.{signed}
 use Rattle.limits.specs.Domain.{outside}
-use Rattle.tracker.specs.Table.{lastOutside}
+use Rattle.tracker.specs.Inner.{lastOutside}
 use Rattle.offers.proofs.Difference.{diff-fits}
 use Rattle.offers.proofs.steps.too_soon.Statement.{statement}
 use Rattle.offers.proofs.steps.too_soon.Tie as tie

@@ -1,7 +1,7 @@
 use borrow.Author.Needs.{needs}
 use borrow.Author.Tests.{eq-eqb, ne-eqb}
-use mathlib.Core.Path.{_≡_, refl, sym, _∙_}
-use mathlib.Core.Bool.{Bool, true, false, _||_}
+use mathlib.Core.Path.{_≡_, sym, _∙_}
+use mathlib.Core.Bool.{true, false}
 use Prim.Native.Nat.{_-_}
 use lib.IntN.{pos}
 use lib.ListN.{getD}
@@ -11,11 +11,6 @@ use Rattle.limits.specs.Domain.{outside}
 use Rattle.order.proofs.Order.{round}
 use Rattle.tracker.proofs.state.last_wrong.Statement.{statement}
 use Rattle.tracker.proofs.state.last_wrong.Tie as tie
-
--- without a last recorded second only its absence can be wrong
-alone : (b : Bool) → b ≡ b || false || false
-alone true = refl
-alone false = refl
 
 enum-told : tie.Need-enum-told
 enum-told c = search needs
@@ -46,7 +41,7 @@ shared-slice-copy-out-result : tie.Need-shared-slice-copy-out-result
 shared-slice-copy-out-result c = search needs
 
 returns-3 : tie.Need-returns-3
-returns-3 c = rw (c .enum-told .given .1) (alone _)
+returns-3 c = rw (c .enum-told .given .1)
 
 returns-4 : tie.Need-returns-4
 returns-4 c =
