@@ -4,10 +4,10 @@ use mathlib.Core.Path.{_≡_}
 use mathlib.Core.List.{List}
 use lib.IntN.{ℤ}
 use lib.ListN.{length}
-use Rattle.told.specs.Told.{Told, gave, refused}
+use Rattle.told.specs.Told.{Told, gave, refused, ifGood}
 use Rattle.gorilla.specs.Format.{imageBytes}
 use Rattle.gorilla.specs.Wide.{wideOf}
-use Rattle.tracker.specs.Refusal.{told, ifGood}
+use Rattle.tracker.specs.Refusal.{told}
 use Rattle.tracker.specs.Table.{checkOf, kept}
 use Rattle.tracker.specs.declared.SequenceTracker.{SequenceTracker}
 use Rattle.encoder.specs.Encode.{wideRule, roomRule, encodedIn}
