@@ -10,7 +10,7 @@ use Rattle.gorilla.specs.Wide.{wideOf}
 use Rattle.tracker.specs.Refusal.{told}
 use Rattle.tracker.specs.Table.{checkOf, kept}
 use Rattle.tracker.specs.declared.SequenceTracker.{SequenceTracker}
-use Rattle.encoder.specs.Encode.{wideRule, roomRule, encodedIn}
+use Rattle.encoder.specs.Encode.{roomRule, encodedIn}
 use Rattle.encoder.specs.Encode as encoder
 use Rattle.saving.specs.declared.Saved.{Saved}
 use Rattle.saving.specs.declared.Saved.the-variants.{Written, Refused, NotEncoded}
@@ -31,7 +31,7 @@ saveOf table seqs secs room = ifGood (checkOf table seqs secs) (keptRoom table s
 
 -- strict: 14, 11, 12, 13; then 20, 21
 abbrev pub saveStrictOf : SequenceTracker → List ℕ → List ℤ → ℕ → Told ℕ
-saveStrictOf table seqs secs room = ifGood (checkOf table seqs secs) (wideRule (wideOf (kept table seqs) (kept table secs)) (keptRoom table seqs secs room))
+saveStrictOf table seqs secs room = ifGood (checkOf table seqs secs) (ifGood (wideOf (kept table seqs) (kept table secs)) (keptRoom table seqs secs room))
 
 -- the buffer after a save that tells this: the image of the kept pairs, and past it what stood there; refused, as before
 abbrev pub savedIn : SequenceTracker → List ℕ → List ℤ → Told ℕ → List ℕ → List ℕ
