@@ -10,7 +10,7 @@ use Rattle.told.specs.Told.{gave}
 use Rattle.gorilla.specs.Format.{imageBytes}
 use Rattle.gorilla.specs.Reading.{Pairs}
 use Rattle.gorilla.specs.RoundTrip.{Fit}
-use Rattle.gorilla.specs.Wide.{none, wideOf}
+use Rattle.gorilla.specs.Wide.{wideOf}
 use Rattle.decoder.specs.Decode.{decodeRule, seqsAfter, secsAfter, imageLenRule, restRule}
 
 -- the bytes of pairs' image, and those after it
@@ -26,7 +26,7 @@ RestFollows = (p : Pairs) (following : List ℕ) → Fit p
 abbrev pub DecodesBack : Type 0
 DecodesBack = (p : Pairs) (following seqs : List ℕ) (secs : List ℤ) → Fit p → length (p .seqs) ≤ min (length seqs) (length secs)
     → (decodeRule (imageThen p following) seqs secs ≡ gave (length (p .seqs)))
-    × ((wideOf (p .seqs) (p .secs) ≡ none)
+    × ((wideOf (p .seqs) (p .secs) ≡ gave tt)
     ↔ ((seqsAfter (imageThen p following) seqs secs ≡ over (p .seqs) seqs) × (secsAfter (imageThen p following) seqs secs ≡ over (p .secs) secs)))
 
 -- Of any accepted input, whoever wrote it: bytes after it change neither the count nor the arrays, and neither the image's length nor what follows it, but for themselves.

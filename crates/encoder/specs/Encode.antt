@@ -6,11 +6,11 @@ use mathlib.Core.List.{List, [], _∷_}
 use lib.Dec.{eqb, ltb}
 use lib.ListN.{length}
 use lib.IntN.{ℤ}
-use Rattle.told.specs.Told.{Told, gave, refused}
+use Rattle.told.specs.Told.{Told, gave, refused, ifGood}
 use Rattle.told.specs.Over.{filled}
 use Rattle.gorilla.specs.Array.{arrayNo}
 use Rattle.gorilla.specs.Format.{imageBytes}
-use Rattle.gorilla.specs.Wide.{Wide, none, found, wideOf}
+use Rattle.gorilla.specs.Wide.{wideOf}
 use Rattle.encoder.specs.declared.Refusal.{Refusal}
 use Rattle.encoder.specs.declared.Refusal.the-variants as refusal
 use Rattle.encoder.specs.declared.EncodedLen.{EncodedLen}
@@ -40,11 +40,6 @@ arraysRule seqs secs else =
     (cond (ltb 65536 (length seqs)) (refused (19 ∷ []))
     else)
 
--- 20 where some difference of deltas lies outside -2^31..2^31-1, told with its array and its index; else as follows
-abbrev pub wideRule : Wide → Told ℕ → Told ℕ
-wideRule (found a i) else = refused (20 ∷ a ∷ i ∷ [])
-wideRule none else = else
-
 -- 21 where the output is too short, told with the bytes needed; else so many bytes are written
 unfoldable pub roomRule : ℕ → ℕ → Told ℕ
 roomRule bytes room = cond (ltb room bytes) (refused (21 ∷ bytes ∷ [])) (gave bytes)
@@ -59,7 +54,7 @@ encodeRule seqs secs room = arraysRule seqs secs (roomRule (length (imageBytes s
 
 -- the strict encoder: 18, 19, 20, 21
 abbrev pub strictRule : List ℕ → List ℤ → ℕ → Told ℕ
-strictRule seqs secs room = arraysRule seqs secs (wideRule (wideOf seqs secs) (roomRule (length (imageBytes seqs secs)) room))
+strictRule seqs secs room = arraysRule seqs secs (ifGood (wideOf seqs secs) (roomRule (length (imageBytes seqs secs)) room))
 
 -- an encoder by its rule: its answer, and the output afterwards: the image, and past it what stood there; refused, it is as before
 abbrev pub Encodes : (List ℕ → List ℤ → ℕ → Told ℕ) → List ℕ → List ℤ → List ℕ → Encoded → List ℕ → Type 0

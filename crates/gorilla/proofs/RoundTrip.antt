@@ -10,6 +10,8 @@ use lib.IntN.{ℤ, pos}
 use mir.Syntax.{w64}
 use mir.Val.{SFits}
 use mir.Facts.{sfits-toZ}
+use Rattle.told.specs.Told.{Told, gave, refused, ifGood}
+use Rattle.told.proofs.Unique.{given-not-refused, same-list}
 use Rattle.signed.specs.Signed.{signed, pattern, addS, subS}
 use Rattle.gorilla.specs.Rows.{strict}
 use Rattle.signed.proofs.Wrapping.{pattern-signed, signed-pattern}
@@ -20,7 +22,7 @@ use Rattle.gorilla.specs.Reading.{Pairs, readImage, valuesAfter}
 use Rattle.gorilla.proofs.Rows.{by-le}
 use Rattle.gorilla.proofs.Trip.{addS-fits, AllFit, Strict, StrictAfter, received, sentAfter, round-trip, strict-if-back}
 use Rattle.gorilla.proofs.ImageTrip.{image-trip, fits-signed, length-received}
-use Rattle.gorilla.specs.Wide.{Wide, none, found, orElse, wideAfter, wideIn, wideOf}
+use Rattle.gorilla.specs.Wide.{wideAfter, wideIn, wideOf}
 use Rattle.gorilla.specs.RoundTrip.{Fit, StrictReadsBack, OthersDoNot}
 
 -- what the list reader makes of pairs that were written
@@ -49,35 +51,60 @@ reads p room following F r = image-trip room (p .seqs) (p .secs) following (all-
 
 -- ---- wide differences
 
-both-none : (a b : Wide) → orElse a b ≡ none → (a ≡ none) × (b ≡ none)
-both-none none b h = (refl, h)
-both-none (found a i) b h = let z : _≡_ {A = ℕ} 0 1 = cc in absurd (omega arith)
+both-good : (a b : Told (Unit {0})) → ifGood a b ≡ gave tt → (a ≡ gave tt) × (b ≡ gave tt)
+both-good (gave tt) b h = (refl, h)
+both-good (refused l) b h = given-not-refused (sym h)
 
-strict-none : (b : Bool) (a i : ℕ) → cond b none (found a i) ≡ none → b ≡ true
-strict-none true a i h = refl
-strict-none false a i h = let z : _≡_ {A = ℕ} 0 1 = cc in absurd (omega arith)
+strict-good : (b : Bool) (t : Told (Unit {0})) (l : List ℕ) → cond b t (refused l) ≡ gave tt → (b ≡ true) × (t ≡ gave tt)
+strict-good true t l h = (refl, h)
+strict-good false t l h = given-not-refused (sym h)
 
-none-after : (a i : ℕ) (p e : ℤ) (xs : List ℤ) → wideAfter a i p e xs ≡ none → StrictAfter p e xs
+good-after : (a i : ℕ) (p e : ℤ) (xs : List ℤ) → wideAfter a i p e xs ≡ gave tt → StrictAfter p e xs
 unfolding wideAfter StrictAfter
-none-after a i p e [] h = tt
-none-after a i p e (x ∷ xs) h =
-    let k = both-none (cond (strict (subS (subS x p) e)) none (found a i)) (wideAfter a (i + 1) x (subS x p) xs) h in
-    (strict-none (strict (subS (subS x p) e)) a i (k .0), none-after a (i + 1) x (subS x p) xs (k .1))
+good-after a i p e [] h = tt
+good-after a i p e (x ∷ xs) h =
+    let k = strict-good (strict (subS (subS x p) e)) (wideAfter a (i + 1) x (subS x p) xs) (20 ∷ a ∷ i ∷ []) h in
+    (k .0, good-after a (i + 1) x (subS x p) xs (k .1))
 
-after-none : (a i : ℕ) (p e : ℤ) (xs : List ℤ) → StrictAfter p e xs → wideAfter a i p e xs ≡ none
+after-good : (a i : ℕ) (p e : ℤ) (xs : List ℤ) → StrictAfter p e xs → wideAfter a i p e xs ≡ gave tt
 unfolding wideAfter StrictAfter
-after-none a i p e [] h = refl
-after-none a i p e (x ∷ xs) (h, k) = rw h (after-none a (i + 1) x (subS x p) xs k)
+after-good a i p e [] h = refl
+after-good a i p e (x ∷ xs) (h, k) = rw h (after-good a (i + 1) x (subS x p) xs k)
 
-none-in : (a : ℕ) (xs : List ℤ) → wideIn a xs ≡ none → Strict xs
+good-in : (a : ℕ) (xs : List ℤ) → wideIn a xs ≡ gave tt → Strict xs
 unfolding wideIn Strict
-none-in a [] h = tt
-none-in a (x ∷ xs) h = none-after a 1 x (pos 0) xs h
+good-in a [] h = tt
+good-in a (x ∷ xs) h = good-after a 1 x (pos 0) xs h
 
-in-none : (a : ℕ) (xs : List ℤ) → Strict xs → wideIn a xs ≡ none
+in-good : (a : ℕ) (xs : List ℤ) → Strict xs → wideIn a xs ≡ gave tt
 unfolding wideIn Strict
-in-none a [] h = refl
-in-none a (x ∷ xs) h = after-none a 1 x (pos 0) xs h
+in-good a [] h = refl
+in-good a (x ∷ xs) h = after-good a 1 x (pos 0) xs h
+
+-- the number that is told is 20
+number-here : (b : Bool) (t : Told (Unit {0})) (a i : ℕ) (what : List ℕ) → (t ≡ refused what → getD what 0 0 ≡ 20)
+    → cond b t (refused (20 ∷ a ∷ i ∷ [])) ≡ refused what → getD what 0 0 ≡ 20
+number-here true t a i what f h = f h
+number-here false t a i what f h = ap (λ (l : List ℕ). getD l 0 0) (sym (same-list h))
+
+number-after : (a i : ℕ) (p e : ℤ) (xs : List ℤ) (what : List ℕ) → wideAfter a i p e xs ≡ refused what → getD what 0 0 ≡ 20
+unfolding wideAfter
+number-after a i p e [] what h = given-not-refused h
+number-after a i p e (x ∷ xs) what h =
+    number-here (strict (subS (subS x p) e)) (wideAfter a (i + 1) x (subS x p) xs) a i what (number-after a (i + 1) x (subS x p) xs what) h
+
+number-in : (a : ℕ) (xs : List ℤ) (what : List ℕ) → wideIn a xs ≡ refused what → getD what 0 0 ≡ 20
+unfolding wideIn
+number-in a [] what h = given-not-refused h
+number-in a (x ∷ xs) what h = number-after a 1 x (pos 0) xs what h
+
+pub number-20 : (seqs : List ℕ) (secs : List ℤ) (what : List ℕ) → wideOf seqs secs ≡ refused what → getD what 0 0 ≡ 20
+unfolding wideOf
+number-20 seqs secs what = go (wideIn 0 (map signed seqs)) refl
+  where
+    go : (t : Told (Unit {0})) → wideIn 0 (map signed seqs) ≡ t → ifGood t (wideIn 1 secs) ≡ refused what → getD what 0 0 ≡ 20
+    go (gave tt) e h = number-in 1 secs what h
+    go (refused l) e h = number-in 0 (map signed seqs) what (e ∙ h)
 
 -- ---- bit patterns and back
 
@@ -100,7 +127,7 @@ unfolding AllFit received
 received-fit [] f = tt
 received-fit (x ∷ xs) (f, g) = (f, values-fit x (pos 0) (sentAfter x (pos 0) xs))
 
-pub exact : (p : Pairs) → Fit p → (wideOf (p .seqs) (p .secs) ≡ none) ↔ (receivedPairs p ≡ p)
+pub exact : (p : Pairs) → Fit p → (wideOf (p .seqs) (p .secs) ≡ gave tt) ↔ (receivedPairs p ≡ p)
 unfolding wideOf receivedPairs
 exact p F = (there, back)
   where
@@ -113,20 +140,20 @@ exact p F = (there, back)
     fit₁ : AllFit (p .secs)
     fit₁ = all-fit (p .secs) (F .secs64)
 
-    there : wideOf (p .seqs) (p .secs) ≡ none → receivedPairs p ≡ p
+    there : wideOf (p .seqs) (p .secs) ≡ gave tt → receivedPairs p ≡ p
     there h =
-        let k = both-none (wideIn 0 (map signed (p .seqs))) (wideIn 1 (p .secs)) h in
+        let k = both-good (wideIn 0 (map signed (p .seqs))) (wideIn 1 (p .secs)) h in
         λ i. record {
-          seqs = (ap (map pattern) (round-trip (map signed (p .seqs)) fit₀ (none-in 0 (map signed (p .seqs)) (k .0))) ∙ patterns (p .seqs) small) i;
-          secs = round-trip (p .secs) fit₁ (none-in 1 (p .secs) (k .1)) i;
+          seqs = (ap (map pattern) (round-trip (map signed (p .seqs)) fit₀ (good-in 0 (map signed (p .seqs)) (k .0))) ∙ patterns (p .seqs) small) i;
+          secs = round-trip (p .secs) fit₁ (good-in 1 (p .secs) (k .1)) i;
         }
 
-    back : receivedPairs p ≡ p → wideOf (p .seqs) (p .secs) ≡ none
+    back : receivedPairs p ≡ p → wideOf (p .seqs) (p .secs) ≡ gave tt
     back h =
         let a = ap (λ (r : Pairs). map signed (r .seqs)) h in
         let s₀ = strict-if-back (map signed (p .seqs)) fit₀ (sym (signs (received (map signed (p .seqs))) (received-fit (map signed (p .seqs)) fit₀)) ∙ a) in
         let s₁ = strict-if-back (p .secs) fit₁ (ap (λ (r : Pairs). r .secs) h) in
-        rw (in-none 0 (map signed (p .seqs)) s₀) (in-none 1 (p .secs) s₁)
+        rw (in-good 0 (map signed (p .seqs)) s₀) (in-good 1 (p .secs) s₁)
 
 pub strict-reads-back : StrictReadsBack
 strict-reads-back p room following F r w = reads p room following F r ∙ ap (λ (q : Pairs). read q (bitsOf following)) (exact p F .0 w)

@@ -7,9 +7,10 @@ use lib.ListN.{length, getD}
 use lib.IntN.{pos}
 use mir.Syntax.{w64}
 use mir.Val.{SFits}
+use Rattle.told.specs.Told.{gave}
 use Rattle.gorilla.specs.BitList.{bitsOf}
 use Rattle.gorilla.specs.Format.{imageBytes}
-use Rattle.gorilla.specs.Wide.{none, wideOf}
+use Rattle.gorilla.specs.Wide.{wideOf}
 use Rattle.gorilla.specs.Parser.{Read, read}
 use Rattle.gorilla.specs.Reading.{Pairs, readImage}
 
@@ -27,9 +28,9 @@ readBack room p following = readImage room (imageBytes (p .seqs) (p .secs) ++ fo
 -- pairs whose differences of deltas all lie in -2^31..2^31-1 read back as themselves, and what is left is what follows
 abbrev pub StrictReadsBack : Type 0
 StrictReadsBack = (p : Pairs) (room : ℕ → Bool) (following : List ℕ) → Fit p → room (length (p .seqs)) ≡ true
-    → wideOf (p .seqs) (p .secs) ≡ none → readBack room p following ≡ read p (bitsOf following)
+    → wideOf (p .seqs) (p .secs) ≡ gave tt → readBack room p following ≡ read p (bitsOf following)
 
 -- any other pairs read back as different ones
 abbrev pub OthersDoNot : Type 0
 OthersDoNot = (p : Pairs) (room : ℕ → Bool) (following : List ℕ) → Fit p → room (length (p .seqs)) ≡ true
-    → (wideOf (p .seqs) (p .secs) ≡ none → ⊥) → (q : Pairs) × (readBack room p following ≡ read q (bitsOf following)) × (q ≡ p → ⊥)
+    → (wideOf (p .seqs) (p .secs) ≡ gave tt → ⊥) → (q : Pairs) × (readBack room p following ≡ read q (bitsOf following)) × (q ≡ p → ⊥)

@@ -11,9 +11,8 @@ use lib.Dec.{ltb}
 use lib.IntN.{pos}
 use lib.ListN.{getD, take}
 use lib.Signed.{ltZ}
-use Rattle.told.specs.Told.{Told, gave, refused}
+use Rattle.told.specs.Told.{Told, gave, refused, ifGood}
 use Rattle.order.specs.First.{first, lastOr}
-use Rattle.tracker.specs.Refusal.{ifGood}
 use Rattle.tracker.specs.Table.{checkOf}
 use Rattle.order.proofs.Bools.{not-given}
 use Rattle.order.proofs.First.{first-none, first-out, first-same}

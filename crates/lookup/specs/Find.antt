@@ -6,9 +6,8 @@ use lib.Dec.{ltb}
 use lib.IntN.{ℤ, pos}
 use lib.ListN.{getD}
 use lib.Signed.{ltZ}
-use Rattle.told.specs.Told.{Told, gave}
+use Rattle.told.specs.Told.{Told, gave, ifGood}
 use Rattle.order.specs.First.{first, final}
-use Rattle.tracker.specs.Refusal.{ifGood}
 use Rattle.tracker.specs.Table.{checkOf}
 use Rattle.tracker.specs.declared.Seq.{Seq}
 use Rattle.tracker.specs.declared.Second.{Second}

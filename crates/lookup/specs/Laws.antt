@@ -7,9 +7,8 @@ use mathlib.Core.List.{List}
 use lib.Dec.{ltb}
 use lib.IntN.{ℤ}
 use lib.ListN.{length}
-use Rattle.told.specs.Told.{Told, gave}
+use Rattle.told.specs.Told.{Told, gave, ifGood}
 use Rattle.limits.specs.Settings.{roomOf}
-use Rattle.tracker.specs.Refusal.{ifGood}
 use Rattle.tracker.specs.Table.{kept}
 use Rattle.tracker.specs.declared.Seq.{Seq}
 use Rattle.tracker.specs.declared.Second.{Second}

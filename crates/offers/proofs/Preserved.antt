@@ -12,10 +12,9 @@ use lib.IntN.{ℤ, pos, negsuc, _-ℤ_}
 use lib.ListN.{length, getD}
 use lib.Seq.{take-at}
 use lib.Signed.{ltZ}
-use Rattle.told.specs.Told.{Told, gave, refused}
+use Rattle.told.specs.Told.{Told, gave, refused, ifGood}
 use Rattle.told.specs.Over.{over}
 use Rattle.limits.specs.Domain.{outside}
-use Rattle.tracker.specs.Refusal.{ifGood}
 use Rattle.limits.specs.Settings.{roomOf}
 use Rattle.tracker.specs.Table.{kept, checkOf}
 use Rattle.tracker.specs.Inner.{lastMisplaced, lastBelow}

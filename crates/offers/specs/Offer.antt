@@ -6,10 +6,10 @@ use lib.Dec.{ltb, eqb}
 use lib.IntN.{ℤ, pos, _-ℤ_}
 use lib.ListN.{length, getD}
 use lib.Signed.{ltZ}
-use Rattle.told.specs.Told.{Told, gave, refused}
+use Rattle.told.specs.Told.{Told, gave, refused, ifGood}
 use Rattle.told.specs.Over.{over}
 use Rattle.limits.specs.Domain.{outside}
-use Rattle.tracker.specs.Refusal.{told, ifGood}
+use Rattle.tracker.specs.Refusal.{told}
 use Rattle.tracker.specs.Table.{checkOf}
 use Rattle.tracker.specs.declared.Seq.{Seq}
 use Rattle.tracker.specs.declared.Second.{Second}

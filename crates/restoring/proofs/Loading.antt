@@ -9,13 +9,12 @@ use lib.Dec.{leb, eqb}
 use lib.ListN.{length, getD, take, drop, length-append}
 use lib.Seq.{take-at, take-all}
 use lib.IntN.{ℤ, pos}
-use Rattle.told.specs.Told.{Told, gave, refused}
+use Rattle.told.specs.Told.{Told, gave, refused, ifGood}
 use Rattle.told.specs.Over.{over, filled}
 use Rattle.gorilla.specs.Parser.{Read, read}
 use Rattle.gorilla.specs.Parser as parser
 use Rattle.gorilla.specs.Reading.{Pairs, readImage, pairsRead}
 use Rattle.gorilla.proofs.Counts.{image-counts}
-use Rattle.tracker.specs.Refusal.{ifGood}
 use Rattle.fresh.specs.Fresh.{freshTable}
 use Rattle.tracker.specs.Table.{pairsOf}
 use Rattle.tracker.specs.declared.SequenceTracker.{SequenceTracker}

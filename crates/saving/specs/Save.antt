@@ -4,14 +4,14 @@ use mathlib.Core.Path.{_≡_}
 use mathlib.Core.List.{List}
 use lib.IntN.{ℤ}
 use lib.ListN.{length}
-use Rattle.told.specs.Told.{Told, gave, refused}
+use Rattle.told.specs.Told.{Told, gave, refused, ifGood}
 use Rattle.told.specs.Over.{filled}
 use Rattle.gorilla.specs.Format.{imageBytes}
 use Rattle.gorilla.specs.Wide.{wideOf}
-use Rattle.tracker.specs.Refusal.{told, ifGood}
+use Rattle.tracker.specs.Refusal.{told}
 use Rattle.tracker.specs.Table.{checkOf, kept}
 use Rattle.tracker.specs.declared.SequenceTracker.{SequenceTracker}
-use Rattle.encoder.specs.Encode.{wideRule, roomRule}
+use Rattle.encoder.specs.Encode.{roomRule}
 use Rattle.encoder.specs.Encode as encoder
 use Rattle.saving.specs.declared.Saved.{Saved}
 use Rattle.saving.specs.declared.Saved.the-variants.{Written, Refused, NotEncoded}
@@ -33,7 +33,7 @@ saveOf table seqs secs room = ifGood (checkOf table seqs secs) (roomRule (length
 -- strict: 14, 11, 12, 13; then 20, 21
 abbrev pub saveStrictOf : SequenceTracker → List ℕ → List ℤ → ℕ → Told ℕ
 saveStrictOf table seqs secs room =
-    ifGood (checkOf table seqs secs) (wideRule (wideOf (kept table seqs) (kept table secs)) (roomRule (length (keptImage table seqs secs)) room))
+    ifGood (checkOf table seqs secs) (ifGood (wideOf (kept table seqs) (kept table secs)) (roomRule (length (keptImage table seqs secs)) room))
 
 -- a save by its rule: its answer, and the buffer afterwards: the image, and past it what stood there; refused, it is as before
 abbrev pub Saves : (SequenceTracker → List ℕ → List ℤ → ℕ → Told ℕ) → SequenceTracker → List ℕ → List ℤ → List ℕ → Saved → List ℕ → Type 0

@@ -5,8 +5,7 @@ use mathlib.Core.List.{List}
 use lib.Dec.{eqb}
 use lib.ListN.{getD}
 use lib.IntN.{ℤ, pos}
-use Rattle.told.specs.Told.{Told, gave}
-use Rattle.tracker.specs.Refusal.{ifGood}
+use Rattle.told.specs.Told.{Told, gave, ifGood}
 use Rattle.tracker.specs.Table.{pairsOf}
 use Rattle.tracker.specs.declared.SequenceTracker.{SequenceTracker}
 use Rattle.tracker.specs.declared.LastRecorded.{LastRecorded}

@@ -11,11 +11,12 @@ use lib.IntN.{ℤ, pos, negsuc, natAbs}
 use lib.Signed.{leZ}
 use mir.Syntax.{w64}
 use mir.Val.{SFits}
+use Rattle.told.specs.Told.{gave}
 use Rattle.signed.specs.Signed.{signed, pattern, subW, subS}
 use Rattle.gorilla.specs.declared.Track.{Track}
 use Rattle.gorilla.specs.Rows.{strict}
 use Rattle.gorilla.specs.Steps.{advanced}
-use Rattle.gorilla.specs.Wide.{none, wideAfter, wideIn}
+use Rattle.gorilla.specs.Wide.{wideAfter, wideIn}
 use Rattle.strict.proofs.Wide.{wide-last, wide-next}
 
 -- a pattern moved up by 2^29 that is below 2^30
@@ -68,5 +69,5 @@ calm-next a xs i h k c =
           ∙ wide-next a xs i t h (advanced t x) (subS d (c .e)) refl refl (small-strict d (c .e) k (c .small)) ∙ c .rest;
     }
 
-pub calm-last : (a : ℕ) (xs : List ℤ) (i : ℕ) → length xs ≤ i → Calm a xs i → none ≡ wideIn a xs
+pub calm-last : (a : ℕ) (xs : List ℤ) (i : ℕ) → length xs ≤ i → Calm a xs i → gave tt ≡ wideIn a xs
 calm-last a xs i h c = wide-last a xs i (record { prev = getD xs (i - 1) (pos 0); delta = c .e }) h ∙ c .rest

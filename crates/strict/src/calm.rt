@@ -6,8 +6,9 @@ ghost use mathlib.Core.List.{map};
 ghost use Prim.Native.Nat.{_^_, _≤_, _<_};
 ghost use lib.ListN.{length};
 ghost use lib.IntN.{natAbs};
+ghost use Rattle.told.specs.Told.{gave};
 ghost use Rattle.signed.specs.Signed.{signed, subS};
-ghost use Rattle.gorilla.specs.Wide.{none, wideIn};
+ghost use Rattle.gorilla.specs.Wide.{wideIn};
 
 // 0 where the delta between two values lies in -2^29..2^29-1.
 fn excess(to: i64, from: i64) -> u64
@@ -20,7 +21,7 @@ fn excess(to: i64, from: i64) -> u64
 // Of the sequences. Not so need not mean that some difference is too large.
 pub fn calm_seqs(seqs: &[u64]) -> bool
     requires { ⌜ length (now seqs) ≤ 65536 ⌝ }
-    ensures { λ r. ⌜ (r ≡ true → none ≡ wideIn 0 (map signed (now (seqs .entry)))) ⌝ }
+    ensures { λ r. ⌜ (r ≡ true → gave tt ≡ wideIn 0 (map signed (now (seqs .entry)))) ⌝ }
 {
     let mut sum: u64 = 0;
     let mut i: usize = 1;
@@ -34,7 +35,7 @@ pub fn calm_seqs(seqs: &[u64]) -> bool
 // Of the seconds.
 pub fn calm_secs(secs: &[i64]) -> bool
     requires { ⌜ length (now secs) ≤ 65536 ⌝ }
-    ensures { λ r. ⌜ (r ≡ true → none ≡ wideIn 1 (now (secs .entry))) ⌝ }
+    ensures { λ r. ⌜ (r ≡ true → gave tt ≡ wideIn 1 (now (secs .entry))) ⌝ }
 {
     let mut sum: u64 = 0;
     let mut i: usize = 1;

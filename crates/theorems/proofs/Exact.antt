@@ -1,21 +1,22 @@
 -- With room for the image a strict save is refused, and then with 20, exactly where the image reads back as other pairs, and writes it exactly where it reads back.
 use mathlib.Core.Path.{_≡_, refl, sym, ap, _∙_}
 use mathlib.Core.Logic.{_↔_}
-use mathlib.Core.List.{List, [], _∷_}
+use mathlib.Core.List.{List}
 use Prim.Native.Nat.{ℕ, _≤_, min}
 use native.Mathlib.Omega.{arith}
 use borrow.Author.Tests.{le-leb, le-ltb}
 use lib.Dec.{leb}
 use lib.ListN.{length, getD, drop}
 use lib.Seq.{take-at}
-use Rattle.told.specs.Told.{gave, refused}
+use Rattle.told.specs.Told.{Told, gave, refused, ifGood}
+use Rattle.told.proofs.Unique.{same-list}
 use Rattle.gorilla.specs.BitList.{bitsOf}
 use Rattle.gorilla.specs.Parser.{read}
 use Rattle.gorilla.specs.Reading.{Pairs}
-use Rattle.gorilla.specs.Wide.{Wide, none, found, wideOf}
-use Rattle.gorilla.proofs.RoundTrip.{receivedPairs, reads, exact}
+use Rattle.gorilla.specs.Wide.{wideOf}
+use Rattle.gorilla.proofs.RoundTrip.{receivedPairs, reads, exact, number-20}
 use Rattle.order.proofs.Bools.{not-given}
-use Rattle.encoder.specs.Encode.{wideRule, roomRule}
+use Rattle.encoder.specs.Encode.{roomRule}
 use Rattle.decoder.specs.Decode.{listed}
 use Rattle.offers.specs.Whole.{Table}
 use Rattle.theorems.specs.Run.{Reload, Lent, keptIn, imageFor, strictTo, saveTo, readBack, ReadsOthers}
@@ -27,7 +28,7 @@ module _ (w : Table) (S : Sound w) (l : Reload) (lent : Lent (l .seqs) (l .secs)
   unfolding roomRule
   plain-is = rw (S .good) (rw (le-ltb (length (l .out)) (length (imageFor w)) room))
 
-  strict-is : strictTo w (l .out) ≡ wideRule (wideOf (keptIn w .seqs) (keptIn w .secs)) (gave (length (imageFor w)))
+  strict-is : strictTo w (l .out) ≡ ifGood (wideOf (keptIn w .seqs) (keptIn w .secs)) (gave (length (imageFor w)))
   unfolding roomRule
   strict-is = save-is w S (l .out) ∙ rw (le-ltb (length (l .out)) (length (imageFor w)) room)
 
@@ -39,7 +40,7 @@ module _ (w : Table) (S : Sound w) (l : Reload) (lent : Lent (l .seqs) (l .secs)
       (le-leb (length (keptIn w .seqs)) (min (length (l .seqs)) (length (l .secs))) (omega (arith, seqs-long w S, at-most w S, lent .0, lent .1))))
 
   -- what reads back is the kept pairs exactly where no difference is wide
-  same-back : (p : Pairs) → readBack w l ≡ read p (bitsOf (l .following)) → (p ≡ keptIn w) ↔ (wideOf (keptIn w .seqs) (keptIn w .secs) ≡ none)
+  same-back : (p : Pairs) → readBack w l ≡ read p (bitsOf (l .following)) → (p ≡ keptIn w) ↔ (wideOf (keptIn w .seqs) (keptIn w .secs) ≡ gave tt)
   same-back p e =
       let k : read p (bitsOf (l .following)) ≡ read (receivedPairs (keptIn w)) (bitsOf (l .following)) = sym e ∙ comes-back in
       let j : p ≡ receivedPairs (keptIn w) = cc in
@@ -53,20 +54,20 @@ module _ (w : Table) (S : Sound w) (l : Reload) (lent : Lent (l .seqs) (l .secs)
         λ k. let r = wide x (λ z. k .2 (same-back (k .0) (k .1) .1 z)) in (r .0, strict-is ∙ r .1),
       )
     where
-      narrow : (x : Wide) (what : List ℕ) → wideRule x (gave (length (imageFor w))) ≡ refused what → x ≡ none → ⊥
-      narrow none what h z = not-given what (length (imageFor w)) (sym h)
-      narrow (found a i) what h z = let z : _≡_ {A = ℕ} 0 1 = cc in omega arith
+      narrow : (x : Told (Unit {0})) (what : List ℕ) → ifGood x (gave (length (imageFor w))) ≡ refused what → x ≡ gave tt → ⊥
+      narrow (gave tt) what h z = not-given what (length (imageFor w)) (sym h)
+      narrow (refused l) what h z = not-given l tt z
 
-      wide : (x : Wide) → (x ≡ none → ⊥) → (what : List ℕ) × (wideRule x (gave (length (imageFor w))) ≡ refused what)
-      wide none h = absurd (h refl)
-      wide (found a i) h = (20 ∷ a ∷ i ∷ [], refl)
+      wide : (x : Told (Unit {0})) → (x ≡ gave tt → ⊥) → (what : List ℕ) × (ifGood x (gave (length (imageFor w))) ≡ refused what)
+      wide (gave tt) h = absurd (h refl)
+      wide (refused l) h = (l, refl)
 
   pub with-20 : (what : List ℕ) → strictTo w (l .out) ≡ refused what → getD what 0 0 ≡ 20
-  with-20 what e = go (wideOf (keptIn w .seqs) (keptIn w .secs)) (sym strict-is ∙ e)
+  with-20 what e = go (wideOf (keptIn w .seqs) (keptIn w .secs)) refl (sym strict-is ∙ e)
     where
-      go : (x : Wide) → wideRule x (gave (length (imageFor w))) ≡ refused what → getD what 0 0 ≡ 20
-      go none h = absurd (not-given what (length (imageFor w)) (sym h))
-      go (found a i) h = let z : what ≡ 20 ∷ a ∷ i ∷ [] = cc in ap (λ (u : List ℕ). getD u 0 0) z
+      go : (x : Told (Unit {0})) → wideOf (keptIn w .seqs) (keptIn w .secs) ≡ x → ifGood x (gave (length (imageFor w))) ≡ refused what → getD what 0 0 ≡ 20
+      go (gave tt) z h = absurd (not-given what (length (imageFor w)) (sym h))
+      go (refused l) z h = number-20 (keptIn w .seqs) (keptIn w .secs) what (z ∙ ap refused (same-list h))
 
   pub writes : (strictTo w (l .out) ≡ gave (length (imageFor w))) ↔ (readBack w l ≡ read (keptIn w) (bitsOf (l .following)))
   writes = (

@@ -10,12 +10,12 @@ use lib.Dec.{leb, ltb}
 use lib.IntN.{ℤ, pos}
 use lib.ListN.{length, getD, drop}
 use lib.Seq.{take-at, take-take, getD-take, length-take-le}
-use Rattle.told.specs.Told.{Told, gave, refused}
+use Rattle.told.specs.Told.{Told, gave, refused, ifGood}
 use Rattle.told.specs.Over.{over}
 use Rattle.gorilla.specs.BitList.{bitsOf}
 use Rattle.gorilla.specs.Parser.{read}
 use Rattle.gorilla.specs.RoundTrip.{Fit}
-use Rattle.gorilla.specs.Wide.{Wide, none, found, wideOf}
+use Rattle.gorilla.specs.Wide.{wideOf}
 use Rattle.gorilla.proofs.RoundTrip.{strict-reads-back}
 use Rattle.limits.specs.Settings.{roomOf}
 use Rattle.fresh.specs.Fresh.{freshTable, defaultCapacity, defaultIntervalSecs}
@@ -24,7 +24,7 @@ use Rattle.order.proofs.Bools.{not-given}
 use Rattle.tracker.proofs.Good.{fine, sorted-again, few, count-seqs, count-secs}
 use Rattle.tracker.proofs.Kept.{kept-at, pairs-kept, check-kept}
 use Rattle.offers.proofs.Rise.{over-length}
-use Rattle.encoder.specs.Encode.{wideRule, roomRule}
+use Rattle.encoder.specs.Encode.{roomRule}
 use Rattle.settling.specs.Settle.{lastOf}
 use Rattle.restoring.specs.Restore.{readTable, judged}
 use Rattle.offers.specs.Whole.{Table}
@@ -114,18 +114,18 @@ module _ (w : Table) (S : Sound w) where
 
   -- ---- a strict save
 
-  pub save-is : (out : List ℕ) → strictTo w out ≡ wideRule (wideOf (keptIn w .seqs) (keptIn w .secs)) (roomRule (length (imageFor w)) (length out))
+  pub save-is : (out : List ℕ) → strictTo w out ≡ ifGood (wideOf (keptIn w .seqs) (keptIn w .secs)) (roomRule (length (imageFor w)) (length out))
   save-is out = rw (S .good)
 
   -- a save that wrote found no wide difference, and wrote the image
-  pub wrote : (out : List ℕ) (n : ℕ) → strictTo w out ≡ gave n → (wideOf (keptIn w .seqs) (keptIn w .secs) ≡ none) × (length (imageFor w) ≡ n)
+  pub wrote : (out : List ℕ) (n : ℕ) → strictTo w out ≡ gave n → (wideOf (keptIn w .seqs) (keptIn w .secs) ≡ gave tt) × (length (imageFor w) ≡ n)
   unfolding roomRule
   wrote out n e = go (wideOf (keptIn w .seqs) (keptIn w .secs)) (ltb (length out) (length (imageFor w))) (sym (save-is out) ∙ e)
     where
-      go : (x : Wide) (b : Bool) → wideRule x (cond b (refused (21 ∷ length (imageFor w) ∷ [])) (gave (length (imageFor w)))) ≡ gave n → (x ≡ none) × (length (imageFor w) ≡ n)
-      go none true h = absurd (not-given (21 ∷ length (imageFor w) ∷ []) n h)
-      go none false h = (refl, cc)
-      go (found a i) b h = absurd (not-given (20 ∷ a ∷ i ∷ []) n h)
+      go : (x : Told (Unit {0})) (b : Bool) → ifGood x (cond b (refused (21 ∷ length (imageFor w) ∷ [])) (gave (length (imageFor w)))) ≡ gave n → (x ≡ gave tt) × (length (imageFor w) ≡ n)
+      go (gave tt) true h = absurd (not-given (21 ∷ length (imageFor w) ∷ []) n h)
+      go (gave tt) false h = (refl, cc)
+      go (refused l) b h = absurd (not-given l n h)
 
   module _ (l : Reload) where
     module _ (n : ℕ) (e : strictTo w (l .out) ≡ gave n) where

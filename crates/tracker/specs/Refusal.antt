@@ -28,8 +28,3 @@ toldCheck (checked.Refused r) = refused (told r)
 abbrev pub toldMade : Made → Told SequenceTracker
 toldMade (made.Table t) = gave t
 toldMade (made.Refused r) = refused (told r)
-
--- a refusal stands; else what follows is told
-abbrev pub ifGood : {A : Type 0} → Told (Unit {0}) → Told A → Told A
-ifGood (gave _) next = next
-ifGood (refused what) next = refused what

@@ -5,13 +5,13 @@ use mathlib.Core.Path.{_≡_, sym, ap, _∙_}
 use mathlib.Core.List.{List}
 use lib.ListN.{length}
 use lib.IntN.{ℤ}
-use Rattle.told.specs.Told.{Told}
+use Rattle.told.specs.Told.{Told, ifGood}
 use Rattle.told.specs.Over.{filled}
 use Rattle.gorilla.specs.Format.{imageBytes}
-use Rattle.gorilla.specs.Wide.{Wide, wideOf}
+use Rattle.gorilla.specs.Wide.{wideOf}
 use Rattle.strict.specs.Inner.{foundWide}
 use Rattle.encoder.specs.declared.EncodedLen.the-variants.{Bytes}
-use Rattle.encoder.specs.Encode.{toldLen, arraysRule, wideRule, roomRule}
+use Rattle.encoder.specs.Encode.{toldLen, arraysRule, roomRule}
 use Rattle.encoder.proofs.Rules.{Passed, len-given, len-refused, passed}
 use Rattle.encoder.proofs.image.encode_strict.Statement.{statement}
 use Rattle.encoder.proofs.image.encode_strict.Tie as tie
@@ -36,12 +36,12 @@ passed-is : (e : tie.After-most-bytes) (n : ℕ) → e .most-bytes .result ≡ B
 passed-is e n h = len-given (seqs-of e) (secs-of e) _ n (ap toldLen (sym h) ∙ e .most-bytes .ensures)
 
 -- 20, or what follows, is what the rule tells
-strict-is : (b : tie.After-most) (w : Wide) → w ≡ wideOf (seqs-of (b .before .before)) (secs-of (b .before .before))
-    → wideRule w (room-of (b .before .before)) ≡ arraysRule (seqs-of (b .before .before)) (secs-of (b .before .before)) (wideRule (wideOf (seqs-of (b .before .before)) (secs-of (b .before .before))) (room-of (b .before .before)))
+strict-is : (b : tie.After-most) (w : Told (Unit {0})) → w ≡ wideOf (seqs-of (b .before .before)) (secs-of (b .before .before))
+    → ifGood w (room-of (b .before .before)) ≡ arraysRule (seqs-of (b .before .before)) (secs-of (b .before .before)) (ifGood (wideOf (seqs-of (b .before .before)) (secs-of (b .before .before))) (room-of (b .before .before)))
 strict-is b w h =
     let e = b .before .before in
     let p = passed-is e _ (b .most .given .1) in
-    ap (λ (v : Wide). wideRule v (room-of e)) h ∙ sym (passed (seqs-of e) (secs-of e) _ (p .same) (p .few))
+    ap (λ (v : Told (Unit {0})). ifGood v (room-of e)) h ∙ sym (passed (seqs-of e) (secs-of e) _ (p .same) (p .few))
 
 most-bytes-requires : tie.Need-most-bytes-requires
 most-bytes-requires c κs = search needs
@@ -93,7 +93,7 @@ returns-3 : tie.Need-returns-3
 returns-3 c =
     let rf = c .before in
     let e = rf .before .before in
-    let r = len-refused (seqs-of e) (secs-of e) _ _ (wideRule (wideOf (seqs-of e) (secs-of e)) (room-of e)) (ap toldLen (sym (rf .refusal .given .1)) ∙ e .most-bytes .ensures) in
+    let r = len-refused (seqs-of e) (secs-of e) _ _ (ifGood (wideOf (seqs-of e) (secs-of e)) (room-of e)) (ap toldLen (sym (rf .refusal .given .1)) ∙ e .most-bytes .ensures) in
     (r, ap (λ (t : Told ℕ). filled t (imageBytes (seqs-of e) (secs-of e)) (out-of e)) r)
 
 pub encode-strict-spec : {M : Type 1} → statement M

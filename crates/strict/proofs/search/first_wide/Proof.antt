@@ -1,6 +1,7 @@
 use borrow.Author.Needs.{needs}
 use mathlib.Core.Path.{refl, sym, ap, _∙_}
-use Rattle.gorilla.specs.Wide.{none, wideIn}
+use Rattle.told.specs.Told.{gave}
+use Rattle.gorilla.specs.Wide.{wideIn}
 use Rattle.strict.specs.Inner.{foundWide}
 use Rattle.strict.proofs.Wide.{wide-both}
 use Rattle.strict.proofs.search.first_wide.Statement.{statement}
@@ -23,7 +24,7 @@ returns c =
     let et = c .before in
     let fs = et .before .before in
     let st = fs .before .before in
-    wide-both (st .args .seqs .now) (st .args .secs .now) none _ (ap foundWide (sym (et .enum-told .given .1)) ∙ fs .wide-seq .ensures) (c .wide-sec .ensures)
+    wide-both (st .args .seqs .now) (st .args .secs .now) (gave tt) _ (ap foundWide (sym (et .enum-told .given .1)) ∙ fs .wide-seq .ensures) (c .wide-sec .ensures)
 
 returns-2 : tie.Need-returns-2
 returns-2 c =
