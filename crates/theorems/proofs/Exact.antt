@@ -9,7 +9,7 @@ use lib.Dec.{leb}
 use lib.ListN.{length, getD, drop}
 use lib.Seq.{take-at}
 use Rattle.told.specs.Told.{gave, refused}
-use Rattle.gorilla.specs.BitList.{bitsOf}
+use Rattle.raw_bits.specs.BitList.{bitsOf}
 use Rattle.gorilla.specs.Parser.{read}
 use Rattle.gorilla.specs.Reading.{Pairs}
 use Rattle.gorilla.specs.Wide.{Wide, none, found, wideOf}
