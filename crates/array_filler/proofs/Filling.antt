@@ -14,7 +14,7 @@ use Rattle.bits.specs.declared.Place.{Place}
 use Rattle.signed.proofs.Signs.{never}
 use Rattle.gorilla.specs.Inner.{isRead}
 use Rattle.gorilla.specs.Parser.{Read, read, refused, andThen, readOr}
-use Rattle.gorilla.specs.Places.{bitsFrom}
+use Rattle.bits.specs.Inner.{bitsFrom}
 use Rattle.gorilla.specs.Reading.{readCode, readCodes, valuesAfter}
 use Rattle.gorilla.specs.Steps.{followed}
 use Rattle.gorilla.specs.declared.Track.{Track}

@@ -7,7 +7,7 @@ use lib.IntN.{ℤ}
 use lib.ListN.{length, replicate}
 use Rattle.gorilla.specs.Inner.{isRead}
 use Rattle.gorilla.specs.Parser.{read}
-use Rattle.gorilla.specs.Places.{bitsFrom}
+use Rattle.bits.specs.Inner.{bitsFrom}
 use Rattle.gorilla.specs.Reading.{readCode}
 use Rattle.gorilla.specs.Steps.{followed}
 use Rattle.array_filler.specs.declared.fill.Cursor.{Cursor}

@@ -11,16 +11,16 @@ use lib.Dec.{ltb}
 use lib.ListN.{length, drop, getD, replicate}
 use lib.Seq.{drop-cons}
 use lib.IntN.{ℤ, pos}
-use Rattle.raw_bits.specs.Bits.{bitAt}
+use Rattle.raw_bits.specs.Inner.{bitAt}
 use Rattle.bits.specs.Place.{posOf, placeOf}
 use Rattle.bits.specs.declared.Place.{Place}
 use Rattle.bits.proofs.Answers.{pos-place}
-use Rattle.gorilla.specs.BitList.{bitsOf}
+use Rattle.raw_bits.specs.BitList.{bitsOf}
 use Rattle.gorilla.specs.Inner.{shape}
 use Rattle.gorilla.specs.Parser.{read, refused, takeOff}
-use Rattle.gorilla.specs.Places.{bitsFrom}
+use Rattle.bits.specs.Inner.{bitsFrom}
 use Rattle.gorilla.specs.Reading.{countOnes, readCode, readCodes}
-use Rattle.gorilla.proofs.Bridge.{bit-is, length-bitsOf}
+use Rattle.raw_bits.proofs.Lists.{bit-is, length-bitsOf}
 use Rattle.gorilla.proofs.Readers.{shape-next}
 use Rattle.code_reader.specs.Refusal.{told}
 use Rattle.code_reader.specs.declared.Refusal.{Refusal}

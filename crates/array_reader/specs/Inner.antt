@@ -9,10 +9,10 @@ use lib.ListN.{drop, length}
 use Rattle.bits.specs.declared.Place.{Place}
 use Rattle.gorilla.specs.Array.{arrayNo}
 use Rattle.gorilla.specs.declared.Array.{Array}
-use Rattle.gorilla.specs.BitList.{bitsOf}
+use Rattle.raw_bits.specs.BitList.{bitsOf}
 use Rattle.gorilla.specs.Inner.{shape, isRead}
 use Rattle.gorilla.specs.Parser.{Read, read, refused, andThen, _>>_, give, align, readOr}
-use Rattle.gorilla.specs.Places.{bitsFrom}
+use Rattle.bits.specs.Inner.{bitsFrom}
 use Rattle.gorilla.specs.Reading.{readCodes, readValues, readArray, valuesAfter}
 use Rattle.code_reader.specs.Refusal.{told}
 use Rattle.array_reader.specs.declared.scan.Scanned.{Scanned}

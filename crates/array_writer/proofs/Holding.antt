@@ -10,10 +10,10 @@ use lib.IntN.{ℤ, pos}
 use Rattle.bits.specs.Place.{placeOf}
 use Rattle.bits.specs.declared.Place.{Place}
 use Rattle.gorilla.specs.declared.Track.{Track}
-use Rattle.gorilla.specs.BitList.{natBits}
-use Rattle.gorilla.specs.Places.{putList}
-use Rattle.gorilla.proofs.Bridge.{length-natBits}
-use Rattle.gorilla.proofs.Putting.{length-putList, put-append, place-pos, place-bit}
+use Rattle.raw_bits.specs.BitList.{natBits}
+use Rattle.raw_bits.specs.Inner.{putList}
+use Rattle.raw_bits.proofs.Lists.{length-natBits, length-putList, put-append}
+use Rattle.gorilla.proofs.Putting.{place-pos, place-bit}
 use Rattle.code_writer.specs.declared.Held.{Held}
 use Rattle.code_writer.specs.Inner.{codesOf, Leads, heldBits, Fits}
 use Rattle.code_writer.proofs.Codes.{Written, write-first, write-next, write-last}

@@ -7,7 +7,7 @@ use lib.Seq.{sets}
 use lib.IntN.{ℤ}
 use Rattle.bits.specs.Place.{placeOf}
 use Rattle.bits.specs.declared.Place.{Place}
-use Rattle.gorilla.specs.Places.{putList}
+use Rattle.raw_bits.specs.Inner.{putList}
 use Rattle.gorilla.specs.Format.{arrayBytes}
 use Rattle.code_writer.specs.Inner.{codesOf}
 

@@ -1,14 +1,17 @@
 -- What a read and a write answer, by cases: for the calls' own proofs, and for their callers. Assumes nothing.
-use Prim.Native.Nat.{ℕ, _+_, _-_, _*_, _/_, _%_, _≤_, _<_}
+use Prim.Native.Nat.{ℕ, zero, suc, _+_, _-_, _*_, _/_, _%_, _≤_, _<_}
 use mathlib.Core.Path.{_≡_, refl, sym, ap, ap₂, _∙_}
 use mathlib.Core.Bool.{Bool, true, false, cond}
-use mathlib.Core.List.{List, [], _∷_}
+use mathlib.Core.List.{List, [], _∷_, _++_}
 use native.Mathlib.Omega.{arith}
-use lib.ListN.{length}
+use lib.ListN.{length, getD, take, drop}
 use lib.Dec.{ltb}
 use borrow.Author.Tests.{lt-ltb, le-ltb, ltb-true, ltb-false}
 use Rattle.told.specs.Told.{Told, gave, refused}
-use Rattle.raw_bits.specs.Bits.{bitsAt, putBits}
+use Rattle.told.specs.Over.{filled}
+use Rattle.raw_bits.specs.BitList.{natBits, bitsOf, natFrom, packed}
+use Rattle.raw_bits.specs.Inner.{bitsAt, putBits}
+use Rattle.raw_bits.proofs.Written.{from-at, put-over}
 use Rattle.bits.specs.Place.{posOf, placeOf}
 use Rattle.bits.specs.Read.{Piece, readRule, toldRead}
 use Rattle.bits.specs.Write.{writeRule, written}
@@ -27,21 +30,38 @@ read-short s at n q h e g = rw (← e) (simp (le-ltb _ _ h, lt-ltb _ _ g))
 pub read-value : (s : List ℕ) (at : Place) (n q : ℕ) {v : ℕ} {p : Place} → n ≤ 64 → q ≡ posOf (length s) at → q + n ≤ length s * 8
     → v ≡ bitsAt s q n → p ≡ placeOf (q + n) → toldRead (rv.Value v p) ≡ readRule s at n
 unfolding readRule
-read-value s at n q h e g d f = rw (← e) (simp (le-ltb _ _ h, le-ltb _ _ g, d, f))
+read-value s at n q h e g d f = rw (← e) (simp (le-ltb _ _ h, le-ltb _ _ g, d, from-at s q n g, f))
+
+-- the buffer after an answer x of the rule
+kept : (s : List ℕ) (at : Place) (v n : ℕ) {l : List ℕ} → refused l ≡ writeRule s at n → s ≡ written s at v n
+unfolding written
+kept s at v zero h = refl
+kept s at v (suc n) h = ap (λ (x : Told Place). filled x (packed (take (posOf (length s) at) (bitsOf s) ++ natBits (suc n) v)) s) h
+
+put : (s : List ℕ) (at : Place) (v n : ℕ) {p : Place} → ((j : ℕ) → getD s j 0 < 256) → posOf (length s) at + n ≤ length s * 8
+    → gave p ≡ writeRule s at n → putBits s (posOf (length s) at) v n ≡ written s at v n
+unfolding written putBits
+put s at v zero b g h = refl
+put s at v (suc n) b g h =
+    put-over s (posOf (length s) at) v n b g
+    ∙ ap (λ (x : Told Place). filled x (packed (take (posOf (length s) at) (bitsOf s) ++ natBits (suc n) v)) s) h
 
 pub write-width : (s : List ℕ) (at : Place) (v n : ℕ) → 64 < n → (refused (23 ∷ []) ≡ writeRule s at n) × (s ≡ written s at v n)
-unfolding writeRule written
-write-width s at v n h = (simp (lt-ltb _ _ h), simp (lt-ltb _ _ h))
+unfolding writeRule
+write-width s at v n h = let e : refused (23 ∷ []) ≡ writeRule s at n = simp (lt-ltb _ _ h) in (e, kept s at v n e)
 
 pub write-short : (s : List ℕ) (at : Place) (v n q : ℕ) {m : ℕ} → n ≤ 64 → q ≡ posOf (length s) at → length s * 8 < q + n → m ≡ (q + n + 7) / 8
     → (refused (21 ∷ m ∷ []) ≡ writeRule s at n) × (s ≡ written s at v n)
-unfolding writeRule written
-write-short s at v n q h e g d = rw (← e) (simp (le-ltb _ _ h, lt-ltb _ _ g, d), simp (le-ltb _ _ h, lt-ltb _ _ g))
+unfolding writeRule
+write-short s at v n q {m} h e g d =
+    let r : refused (21 ∷ m ∷ []) ≡ writeRule s at n = rw (← e) (simp (le-ltb _ _ h, lt-ltb _ _ g, d)) in (r, kept s at v n r)
 
-pub write-done : (s u : List ℕ) (at : Place) (v n q : ℕ) {p : Place} → n ≤ 64 → q ≡ posOf (length s) at → q + n ≤ length s * 8
+pub write-done : (s u : List ℕ) (at : Place) (v n q : ℕ) {p : Place} → ((j : ℕ) → getD s j 0 < 256) → n ≤ 64 → q ≡ posOf (length s) at → q + n ≤ length s * 8
     → p ≡ placeOf (q + n) → u ≡ putBits s q v n → (gave p ≡ writeRule s at n) × (u ≡ written s at v n)
-unfolding writeRule written
-write-done s u at v n q h e g d f = rw (← e) (simp (le-ltb _ _ h, le-ltb _ _ g, d), simp (le-ltb _ _ h, le-ltb _ _ g, f))
+unfolding writeRule
+write-done s u at v n q {p} b h e g d f =
+    let r : gave p ≡ writeRule s at n = rw (← e) (simp (le-ltb _ _ h, le-ltb _ _ g, d)) in
+    (r, f ∙ ap (λ (x : ℕ). putBits s x v n) e ∙ put s at v n b (omega arith) r)
 
 -- ---- places
 -- the place n bits on
@@ -77,7 +97,7 @@ pub record Given (s : List ℕ) (at : Place) (n v : ℕ) (p : Place) : Type 0 wh
 
 module _ (s : List ℕ) (at : Place) (n : ℕ) where
   abbrev found : Told Piece
-  found = gave (record { value = bitsAt s (posOf (length s) at) n; next = placeOf (posOf (length s) at + n) })
+  found = gave (record { value = natFrom 0 (take n (drop (posOf (length s) at) (bitsOf s))); next = placeOf (posOf (length s) at + n) })
 
   -- one law for the three cases: an answer x that is the rule's
   by-case : {X : Type 0} (x : Told Piece) → x ≡ readRule s at n
@@ -97,9 +117,9 @@ module _ (s : List ℕ) (at : Place) (n : ℕ) where
   given {v} {p} h = by-case (toldRead (rv.Value v p)) h
       (λ _ g. let z : _≡_ {A = ℕ} 0 1 = cc in absurd (omega arith))
       (λ _ _ g. let z : _≡_ {A = ℕ} 0 1 = cc in absurd (omega arith))
-      (λ e w g. let same : _≡_ {A = Piece} (record { value = v; next = p }) (record { value = bitsAt s (posOf (length s) at) n; next = placeOf (posOf (length s) at + n) }) = cc in
+      (λ e w g. let same : _≡_ {A = Piece} (record { value = v; next = p }) (record { value = natFrom 0 (take n (drop (posOf (length s) at) (bitsOf s))); next = placeOf (posOf (length s) at + n) }) = cc in
       let q : p ≡ placeOf (posOf (length s) at + n) = ap (λ (x : Piece). x .next) same in
-      record { width = e; within = w; value = ap (λ (x : Piece). x .value) same; place = q; pos = ap (posOf (length s)) q ∙ pos-place (length s) (posOf (length s) at + n) w })
+      record { width = e; within = w; value = ap (λ (x : Piece). x .value) same ∙ from-at s (posOf (length s) at) n w; place = q; pos = ap (posOf (length s)) q ∙ pos-place (length s) (posOf (length s) at + n) w })
 
   -- a read that was too short
   pub short : toldRead rv.Short ≡ readRule s at n → length s * 8 < posOf (length s) at + n

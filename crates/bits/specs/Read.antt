@@ -2,10 +2,10 @@
 use Prim.Native.Nat.{ℕ, _+_, _*_}
 use mathlib.Core.Bool.{cond}
 use mathlib.Core.List.{List, [], _∷_}
-use lib.ListN.{length}
+use lib.ListN.{length, take, drop}
 use lib.Dec.{ltb}
 use Rattle.told.specs.Told.{Told, gave, refused}
-use Rattle.raw_bits.specs.Bits.{bitsAt}
+use Rattle.raw_bits.specs.BitList.{bitsOf, natFrom}
 use Rattle.bits.specs.Place.{posOf, placeOf}
 use Rattle.bits.specs.declared.Place.{Place}
 use Rattle.bits.specs.declared.BitsRead.{BitsRead}
@@ -26,4 +26,4 @@ unfoldable pub readRule : List ℕ → Place → ℕ → Told Piece
 readRule s at n =
     cond (ltb 64 n) (refused (23 ∷ []))
     (cond (ltb (length s * 8) (posOf (length s) at + n)) (refused (24 ∷ []))
-    (gave (record { value = bitsAt s (posOf (length s) at) n; next = placeOf (posOf (length s) at + n) })))
+    (gave (record { value = natFrom 0 (take n (drop (posOf (length s) at) (bitsOf s))); next = placeOf (posOf (length s) at + n) })))

@@ -8,10 +8,10 @@ use borrow.Author.Tests.{lt-ltb, le-ltb}
 use lib.Arith.{digits-div, digits-mod}
 use lib.ListN.{length, drop}
 use lib.Pow.{field, shl-shr, shr-shr}
-use Rattle.raw_bits.specs.Bits.{bitAt, bitsAt}
+use Rattle.raw_bits.specs.Inner.{bitAt, bitsAt}
 use Rattle.bits.specs.Place.{posOf}
 use Rattle.raw_bits.proofs.Bits.{bitAt-lt, bitsAt-add, bitsAt-lt}
-use Rattle.gorilla.specs.BitList.{bitsOf}
+use Rattle.raw_bits.specs.BitList.{bitsOf}
 use Rattle.gorilla.specs.Parser.{read, refused, takeOff}
 use Rattle.gorilla.proofs.Bridge.{take-at, take-short}
 use Rattle.code_reader.specs.Inner.{Holds}

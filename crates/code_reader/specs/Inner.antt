@@ -4,8 +4,8 @@ use mathlib.Core.Path.{_≡_}
 use mathlib.Core.List.{List}
 use lib.ListN.{length, drop}
 use lib.IntN.{ℤ}
-use Rattle.raw_bits.specs.Bits.{bitAt, bitsAt}
-use Rattle.gorilla.specs.BitList.{bitsOf}
+use Rattle.raw_bits.specs.Inner.{bitAt, bitsAt}
+use Rattle.raw_bits.specs.BitList.{bitsOf}
 use Rattle.gorilla.specs.Parser.{Read, read, refused}
 use Rattle.gorilla.specs.Reading.{countOnes, readCode}
 use Rattle.code_reader.specs.Refusal.{told}

@@ -10,11 +10,11 @@ use Rattle.signed.specs.Signed.{pattern, subS}
 use Rattle.gorilla.specs.declared.Track.{Track}
 use Rattle.gorilla.specs.declared.Coded.{Coded}
 use Rattle.gorilla.specs.Steps.{advanced}
-use Rattle.gorilla.specs.BitList.{natBits}
-use Rattle.gorilla.specs.Places.{putList}
+use Rattle.raw_bits.specs.BitList.{natBits}
+use Rattle.raw_bits.specs.Inner.{putList}
 use Rattle.gorilla.specs.Format.{codeBits, codesBits, valuesBits, arrayBits}
-use Rattle.gorilla.proofs.Bridge.{length-natBits}
-use Rattle.gorilla.proofs.Putting.{length-code, narrow, length-putList, put-append, codes-step, codes-done}
+use Rattle.raw_bits.proofs.Lists.{length-natBits, length-putList, put-append}
+use Rattle.gorilla.proofs.Putting.{length-code, narrow, codes-step, codes-done}
 use Rattle.code_writer.specs.Inner.{codesOf, Leads}
 
 -- a code has at most 36 bits

@@ -5,9 +5,10 @@ use mathlib.Core.List.{List, _++_}
 use native.Mathlib.Nat.{add-zero}
 use Rattle.bits.specs.Place.{placeOf}
 use Rattle.bits.specs.declared.Place.{Place}
-use Rattle.gorilla.specs.BitList.{natBits}
-use Rattle.gorilla.specs.Places.{putList}
-use Rattle.gorilla.proofs.Putting.{two-parts, place-pos}
+use Rattle.raw_bits.specs.BitList.{natBits}
+use Rattle.raw_bits.specs.Inner.{putList}
+use Rattle.raw_bits.proofs.Lists.{two-parts}
+use Rattle.gorilla.proofs.Putting.{place-pos}
 
 -- the count and the first value
 pub head-put : (s u t : List ℕ) (k n f : ℕ) {p : Place} → p ≡ placeOf (k * 8 + 0 + 32) → u ≡ putList s (k * 8 + 0) (natBits 32 n)

@@ -10,12 +10,12 @@ use lib.ListN.{length, getD, take, drop, length-append, length-drop, take-append
 use lib.Seq.{drop-at, length-take-le}
 use lib.IntN.{ℤ, pos}
 use Rattle.signed.specs.Signed.{signed, pattern}
-use Rattle.gorilla.specs.BitList.{bitsOf}
+use Rattle.raw_bits.specs.BitList.{bitsOf}
 use Rattle.gorilla.specs.Rows.{widths, decoded}
 use Rattle.gorilla.specs.Parser.{Read, read, refused, Reader, andThen, _>>=_, give, require, takeOff, takeBits, align}
 use Rattle.gorilla.specs.Reading.{countOnes, readCode, readCodes, valuesAfter, readValues, readArray, leCount, readPart, Pairs, readPairs, readImage}
 use Rattle.gorilla.specs.Ignored.{FollowingIgnored, Padded, PaddingIgnored}
-use Rattle.gorilla.proofs.Bridge.{length-bitsOf}
+use Rattle.raw_bits.proofs.Lists.{length-bitsOf}
 use Rattle.gorilla.proofs.Counts.{both}
 use Rattle.gorilla.proofs.ImageTrip.{bitsOf-append}
 

@@ -14,14 +14,14 @@ use mir.Val.{SFits}
 use mir.Facts.{sfits-toZ}
 use Rattle.signed.specs.Signed.{signed, pattern, subS, addS}
 use Rattle.signed.proofs.Wrapping.{pattern-signed}
-use Rattle.gorilla.specs.BitList.{natBits, bitsOf, byteLen, packed}
+use Rattle.raw_bits.specs.BitList.{natBits, bitsOf, byteLen, packed}
 use Rattle.gorilla.specs.Parser.{Read, read, refused, takeOff, takeBits, andThen}
 use Rattle.gorilla.specs.Format.{codeBits, codesBits, valuesBits, arrayBits, arrayBytes, leBytes, imageBytes}
 use Rattle.gorilla.specs.Reading.{readArray, leCount, readPart, Pairs, readPairs, readImage, valuesAfter}
 use Rattle.gorilla.proofs.Taking.{take-is}
 use Rattle.gorilla.proofs.Trip.{AllFit, Strict, received, sentAfter, read-array, round-trip}
-use Rattle.gorilla.proofs.Bridge.{length-bitsOf}
-use Rattle.gorilla.proofs.Packing.{AllBits, bits-natBits, bits-append, bits-packed}
+use Rattle.raw_bits.proofs.Lists.{length-bitsOf}
+use Rattle.raw_bits.proofs.Packing.{AllBits, bits-natBits, bits-append, bits-packed}
 
 -- ---- an array's bits are bits
 bits-code : (d : ℤ) → AllBits (codeBits d)

@@ -3,7 +3,6 @@ pub mod Rows
 pub mod Taking
 pub mod Trip
 pub mod Bridge
-pub mod Packing
 pub mod ImageTrip
 pub mod Putting
 pub mod Readers

@@ -1,45 +1,20 @@
--- Bits put into bytes, one after the other. Assumes nothing.
-use Prim.Native.Nat.{ℕ, zero, suc, _+_, _-_, _*_, _/_, _%_, _^_, _≤_, _<_}
-use mathlib.Core.Path.{_≡_, refl, sym, ap, _∙_, subst}
-use mathlib.Core.List.{List, [], _∷_, _++_}
-use native.Mathlib.Nat.{add-zero}
+-- The length of codes, the place after them, and one code after the other. Assumes nothing.
+use Prim.Native.Nat.{ℕ, _+_, _*_, _≤_, _<_}
+use mathlib.Core.Path.{_≡_, sym, ap, _∙_, subst}
+use mathlib.Core.List.{List, [], _++_}
 use native.Mathlib.Omega.{arith}
-use lib.ListN.{length, getD, drop, length-set, length-append, drop-of-length-le}
+use lib.ListN.{length, getD, drop, length-append, drop-of-length-le}
 use lib.Seq.{drop-cons}
 use native.Mathlib.Numerals.{add-one}
 use lib.IntN.{ℤ, pos}
-use Rattle.raw_bits.specs.Bits.{putBit, putBits}
+use Rattle.raw_bits.proofs.Lists.{length-natBits}
 use Rattle.bits.specs.Place.{placeOf}
 use Rattle.bits.specs.declared.Place.{Place}
-use Rattle.raw_bits.proofs.Bits.{putBits-add}
-use Rattle.gorilla.specs.declared.Row.{Row}
 use Rattle.signed.specs.Signed.{subS}
+use Rattle.gorilla.specs.declared.Row.{Row}
 use Rattle.gorilla.specs.Rows.{rowOf}
-use Rattle.gorilla.specs.BitList.{natBits}
-use Rattle.gorilla.specs.Places.{putList}
 use Rattle.gorilla.specs.Format.{codeBits, codesBits}
-use Rattle.gorilla.proofs.Bridge.{length-natBits}
 use Rattle.gorilla.proofs.Trip.{rows}
-
-pub put-nat : (s : List ℕ) (p v n : ℕ) → putBits s p v n ≡ putList s p (natBits n v)
-unfolding putList putBits natBits
-put-nat s p v zero = refl
-put-nat s p v (suc n) =
-    let e : suc n ≡ 1 + n = omega arith in
-    let b : putBits s p (v / 2 ^ n) 1 ≡ putBit s p (v / 2 ^ n % 2) = ap (λ (u : ℕ). putBit s u (v / 2 ^ n % 2)) (add-zero p) in
-    ap (putBits s p v) e ∙ putBits-add s p v 1 n ∙ ap (λ (l : List ℕ). putBits l (p + 1) v n) b ∙ put-nat (putBit s p (v / 2 ^ n % 2)) (p + 1) v n
-
-pub put-append : (s : List ℕ) (p : ℕ) (a b : List ℕ) → putList s p (a ++ b) ≡ putList (putList s p a) (p + length a) b
-unfolding putList
-put-append s p [] b = ap (λ (u : ℕ). putList s u b) (sym (add-zero p))
-put-append s p (x ∷ a) b =
-    let e : p + 1 + length a ≡ p + suc (length a) = omega arith in
-    put-append (putBit s p x) (p + 1) a b ∙ ap (λ (u : ℕ). putList (putList (putBit s p x) (p + 1) a) u b) e
-
-pub length-putList : (s : List ℕ) (p : ℕ) (bs : List ℕ) → length (putList s p bs) ≡ length s
-unfolding putList putBit
-length-putList s p [] = refl
-length-putList s p (b ∷ bs) = length-putList (putBit s p b) (p + 1) bs ∙ simp length-set
 
 -- ---- a code: its prefix and its low bits, and at most 36 bits
 pub length-code : (d : ℤ) → length (codeBits d) ≡ (rowOf d) .«prefix_bits» + (rowOf d) .width
@@ -52,10 +27,6 @@ Narrow r = (r .«prefix_bits» ≤ 4) × (r .width ≤ 32)
 pub narrow : (d : ℤ) → ((rowOf d) .«prefix_bits» ≤ 4) × ((rowOf d) .width ≤ 32)
 unfolding Narrow
 narrow = rows Narrow (omega arith) (omega arith) (omega arith) (omega arith) (omega arith)
-
-pub two-parts : (s : List ℕ) (q n p w x : ℕ) → putList (putList s q (natBits n p)) (q + n) (natBits w x) ≡ putList s q (natBits n p ++ natBits w x)
-two-parts s q n p w x =
-    ap (λ (u : ℕ). putList (putList s q (natBits n p)) (q + u) (natBits w x)) (sym (length-natBits n p)) ∙ sym (put-append s q (natBits n p) (natBits w x))
 
 -- the place of a count of bits
 pub place-pos : (q : ℕ) {p : Place} → p ≡ placeOf q → p .byte * 8 + p .bit ≡ q

@@ -11,16 +11,15 @@ use Rattle.signed.specs.Extend.{extend, extendRule, toldExtend}
 use Rattle.gorilla.specs.Rows.{decoded}
 use Rattle.gorilla.specs.Rows.{widths}
 use Rattle.signed.proofs.Widths.{taken}
-use Rattle.raw_bits.specs.Bits.{bitsAt}
 use Rattle.bits.specs.Place.{posOf, placeOf}
 use Rattle.bits.specs.Read.{readRule, toldRead}
 use Rattle.bits.specs.declared.Place.{Place}
 use Rattle.bits.specs.declared.BitsRead.the-variants as rv
 use Rattle.bits.proofs.Answers.{given, short, pos-le}
-use Rattle.gorilla.specs.BitList.{bitsOf}
+use Rattle.raw_bits.specs.BitList.{bitsOf}
 use Rattle.gorilla.specs.Inner.{shape}
 use Rattle.gorilla.specs.Parser.{Read, read, refused, takeOff, andThen}
-use Rattle.gorilla.specs.Places.{bitsFrom}
+use Rattle.bits.specs.Inner.{bitsFrom}
 use Rattle.gorilla.specs.Reading.{cutNumber, countOnes, readCode, readCodes}
 use Rattle.gorilla.proofs.Bridge.{take-at, take-short}
 

@@ -15,7 +15,7 @@ use Rattle.told.proofs.Unique.{given-not-refused, same-list}
 use Rattle.signed.specs.Signed.{signed, pattern, addS, subS}
 use Rattle.gorilla.specs.Rows.{strict}
 use Rattle.signed.proofs.Wrapping.{pattern-signed, signed-pattern}
-use Rattle.gorilla.specs.BitList.{bitsOf}
+use Rattle.raw_bits.specs.BitList.{bitsOf}
 use Rattle.gorilla.specs.Parser.{Read, read}
 use Rattle.gorilla.specs.Format.{imageBytes}
 use Rattle.gorilla.specs.Reading.{Pairs, readImage, valuesAfter}

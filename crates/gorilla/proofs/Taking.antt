@@ -6,7 +6,7 @@ use native.Mathlib.Nat.{mul-assoc, mul-comm, add-mul, pow-suc, mod-mod, mod-eq-o
 use native.Mathlib.Omega.{arith}
 use lib.ListN.{length}
 use lib.Pow.{mod-pow-add}
-use Rattle.gorilla.specs.BitList.{natBits}
+use Rattle.raw_bits.specs.BitList.{natBits}
 use Rattle.gorilla.specs.Parser.{Read, read, refused, takeOff}
 
 -- a number's highest bit of suc n, then the others

@@ -1,11 +1,9 @@
-pub mod BitList
 pub mod Rows
 pub mod Steps
 pub mod Format
 pub mod Wide
 pub mod Parser
 pub mod Reading
-pub mod Places
 pub mod RoundTrip
 pub mod Ignored
 pub mod Array

@@ -9,7 +9,7 @@ use native.Mathlib.Omega.{arith}
 use lib.ListN.{length, getD, set, length-set}
 use lib.Pow.{shl-lt, shr-lt, shl-exact, pow-pos, pow-mono, pow-add, shr-shr, mod-pow-add}
 use lib.Arith.{digits-lt, digits-div, digits-mod}
-use Rattle.raw_bits.specs.Bits.{bitAt, bitsAt, putBit, putBits}
+use Rattle.raw_bits.specs.Inner.{bitAt, bitsAt, putBit, putBits}
 
 pub bitAt-lt : (s : List ℕ) (p : ℕ) → bitAt s p < 2
 unfolding bitAt

@@ -10,7 +10,7 @@ use lib.ListN.{length, getD, set, length-set}
 use lib.Seq.{getD-set-same, getD-set-other}
 use lib.Pow.{pow-pos, pow-add, shr-shr, mod-pow-add, high, shl-lt, field, mod-mod-pow}
 use lib.Arith.{digits-div, digits-mod}
-use Rattle.raw_bits.specs.Bits.{bitAt, bitsAt, putBit, putBits}
+use Rattle.raw_bits.specs.Inner.{bitAt, bitsAt, putBit, putBits}
 use Rattle.raw_bits.proofs.Bits.{length-putBits, bitsAt-byte, bitsAt-add, merge-lt, putBits-add, byte-set}
 
 -- a bit of the new byte that is above the one written

@@ -1,2 +1,5 @@
 pub mod Bits
 pub mod Kept
+pub mod Lists
+pub mod Packing
+pub mod Written

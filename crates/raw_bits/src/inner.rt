@@ -2,7 +2,7 @@
 ghost use mathlib.Core.Path.{_≡_};
 ghost use Prim.Native.Nat.{_+_, _*_, _-_, _/_, _%_, _^_, _≤_, _<_, min};
 ghost use lib.ListN.{length};
-ghost use Rattle.raw_bits.specs.Bits.{bitAt, bitsAt, putBits};
+ghost use Rattle.raw_bits.specs.Inner.{bitAt, bitsAt, putBits};
 
 fn wide(x: u8) -> u64
     ensures { λ r. ⌜ r ≡ x ⌝ }

@@ -1,6 +1,6 @@
 use borrow.Author.Needs.{needs}
 use lib.IntN.{pos}
-use Rattle.gorilla.specs.Places.{bitsFrom}
+use Rattle.bits.specs.Inner.{bitsFrom}
 use Rattle.array_reader.proofs.Runs.{zeros-code}
 use Rattle.array_filler.proofs.fill.coast.Statement.{statement}
 use Rattle.array_filler.proofs.fill.coast.Tie as tie

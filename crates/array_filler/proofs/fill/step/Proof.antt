@@ -10,7 +10,7 @@ use mir.Val.{SFits}
 use mir.Facts.{toZ-ofZ}
 use Rattle.gorilla.specs.Array.{arrayNo}
 use Rattle.gorilla.specs.Parser.{Read, read}
-use Rattle.gorilla.specs.Places.{bitsFrom}
+use Rattle.bits.specs.Inner.{bitsFrom}
 use Rattle.gorilla.specs.Reading.{readCode}
 use Rattle.code_reader.specs.Inner.{ReadsCode}
 use Rattle.code_reader.specs.declared.code.CodeRead.the-variants as v

@@ -13,9 +13,9 @@ use Rattle.bits.specs.declared.Place.{Place}
 use Rattle.bits.proofs.Answers.{given, too-wide}
 use Rattle.raw_bits.proofs.Bits.{bitsAt-lt}
 use Rattle.gorilla.specs.Array.{arrayNo}
-use Rattle.gorilla.specs.BitList.{bitsOf}
+use Rattle.raw_bits.specs.BitList.{bitsOf}
 use Rattle.gorilla.specs.Parser.{read, takeOff}
-use Rattle.gorilla.specs.Places.{bitsFrom}
+use Rattle.bits.specs.Inner.{bitsFrom}
 use Rattle.gorilla.specs.Reading.{readValues, readArray}
 use Rattle.gorilla.proofs.Readers.{took, ended}
 use Rattle.array_reader.specs.Inner.{arrayAt, aligned, passedAt, Agrees}

@@ -11,10 +11,10 @@ use Rattle.bits.specs.Read.{toldRead}
 use Rattle.bits.specs.declared.Place.{Place}
 use Rattle.bits.proofs.Answers.{given, too-wide}
 use Rattle.gorilla.specs.Array.{arrayNo}
-use Rattle.gorilla.specs.BitList.{bitsOf}
+use Rattle.raw_bits.specs.BitList.{bitsOf}
 use Rattle.gorilla.specs.Inner.{shape}
 use Rattle.gorilla.specs.Parser.{read, takeOff}
-use Rattle.gorilla.specs.Places.{bitsFrom}
+use Rattle.bits.specs.Inner.{bitsFrom}
 use Rattle.gorilla.specs.Reading.{readCodes}
 use Rattle.gorilla.proofs.Readers.{took, ended}
 use Rattle.array_reader.specs.Inner.{toldScan, arrayAt}

@@ -8,7 +8,7 @@ use Rattle.bits.specs.declared.Place.{Place}
 use Rattle.gorilla.specs.Array.{arrayNo}
 use Rattle.gorilla.specs.Inner.{shape}
 use Rattle.gorilla.specs.Parser.{Read, read}
-use Rattle.gorilla.specs.Places.{bitsFrom}
+use Rattle.bits.specs.Inner.{bitsFrom}
 use Rattle.gorilla.specs.Reading.{readCode, readCodes}
 use Rattle.gorilla.proofs.Readers.{shape-next, codes-cut}
 use Rattle.code_reader.specs.Inner.{ReadsCode}

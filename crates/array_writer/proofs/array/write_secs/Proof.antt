@@ -7,7 +7,8 @@ use lib.ListN.{length, getD}
 use lib.IntN.{ℤ, pos}
 use mir.Facts.{toZ-ofZ}
 use Rattle.signed.specs.Signed.{pattern}
-use Rattle.gorilla.proofs.Putting.{length-putList, place-pos, place-bit}
+use Rattle.raw_bits.proofs.Lists.{length-putList}
+use Rattle.gorilla.proofs.Putting.{place-pos, place-bit}
 use Rattle.code_writer.specs.Inner.{codesOf}
 use Rattle.code_writer.proofs.Codes.{none-length, parts-length}
 use Rattle.array_writer.proofs.Arrays.{none-put, array-put, none-end, array-end}

@@ -30,8 +30,9 @@ same-length c = search needs
 
 returns-3 : tie.Need-returns-3
 returns-3 c =
-    let p = c .before .before .before .before .before .before .before .settle .result in
-    write-done _ _ _ _ _ (p .byte * 8 + p .bit) (search needs) (c .before .before .before .before .before .before .before .settle .ensures .pos) (search needs)
+    let w = c .before .before .before .before .before .before .before in
+    let p = w .settle .result in
+    write-done _ _ _ _ _ (p .byte * 8 + p .bit) (λ j. omega (arith, w .before .before .slice-known .given j)) (search needs) (w .settle .ensures .pos) (search needs)
     (c .after .ensures) (c .before .before .before .put-bits .ensures)
 
 pub write-bits-spec : {M : Type 1} → statement M

@@ -10,9 +10,9 @@ use lib.Pow.{pow-mono, pow-pos}
 use mir.Syntax.{w64}
 use mir.Val.{SFits}
 use mir.Facts.{toZ-ofZ}
-use Rattle.raw_bits.specs.Bits.{bitsAt}
+use Rattle.raw_bits.specs.Inner.{bitsAt}
 use Rattle.gorilla.specs.Array.{arrayNo}
-use Rattle.gorilla.specs.BitList.{bitsOf}
+use Rattle.raw_bits.specs.BitList.{bitsOf}
 use Rattle.gorilla.specs.Parser.{read, refused}
 use Rattle.gorilla.specs.Reading.{countOnes, readCode}
 use Rattle.gorilla.specs.Rows.{widths, decoded}

@@ -6,7 +6,7 @@ use mathlib.Core.List.{List}
 use native.Mathlib.Nat.{div-one, le-refl, mod-lt}
 use lib.Pow.{pow-pos}
 use lib.ListN.{length, getD, set, length-set}
-use Rattle.raw_bits.specs.Bits.{putBits}
+use Rattle.raw_bits.specs.Inner.{putBits}
 use Rattle.raw_bits.proofs.Bits.{put-some, put-left, put-total, put-none, put-first, put-all, byte-set, length-putBits}
 use Rattle.raw_bits.proofs.inner.put_bits.Statement.{statement}
 use Rattle.raw_bits.proofs.inner.put_bits.Tie as tie

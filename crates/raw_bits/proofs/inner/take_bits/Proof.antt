@@ -3,7 +3,7 @@ use borrow.Author.Needs.{needs}
 use Prim.Native.Nat.{ℕ, zero, suc, _+_, _-_, _*_, _/_, _%_, _^_, _≤_, _<_}
 use mathlib.Core.Path.{_≡_, refl, sym, ap, ap₂, _∙_}
 use denote.Ref.{now}
-use Rattle.raw_bits.specs.Bits.{bitsAt}
+use Rattle.raw_bits.specs.Inner.{bitsAt}
 use Rattle.raw_bits.proofs.Bits.{take-some, bitsAt-fits}
 use Rattle.raw_bits.proofs.inner.take_bits.Statement.{statement}
 use Rattle.raw_bits.proofs.inner.take_bits.Tie as tie

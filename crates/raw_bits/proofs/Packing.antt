@@ -11,12 +11,10 @@ use lib.Dec.{ltb}
 use lib.ListN.{length, getD, set, take, drop, replicate, length-append, length-take, length-drop, length-replicate, length-set, take-append-drop}
 use lib.Seq.{take-append-le, drop-append-le, take-append-add, take-add, sets, length-take-le, getD-set-same, getD-set-other}
 use lib.Arith.{digits-div, digits-mod}
-use Rattle.raw_bits.specs.Bits.{putBit, putBits}
-use Rattle.raw_bits.proofs.Bits.{putBits-byte}
-use Rattle.gorilla.specs.BitList.{natBits, bitsOf, natFrom, bytesOf, byteLen, packed}
-use Rattle.gorilla.specs.Places.{putList}
-use Rattle.gorilla.proofs.Bridge.{length-natBits, length-bitsOf}
-use Rattle.gorilla.proofs.Putting.{put-nat, put-append}
+use Rattle.raw_bits.specs.Inner.{putBit, putBits, putList}
+use Rattle.raw_bits.proofs.Bits.{putBits-byte, byte-set}
+use Rattle.raw_bits.specs.BitList.{natBits, bitsOf, natFrom, bytesOf, byteLen, packed}
+use Rattle.raw_bits.proofs.Lists.{length-natBits, length-bitsOf, put-nat, put-append}
 
 unfoldable pub AllBits : List ℕ → Type 0
 AllBits [] = Unit {0}
@@ -32,7 +30,7 @@ unfolding AllBits
 bits-append [] b f g = g
 bits-append (x ∷ a) b (h, f) g = (h, bits-append a b f g)
 
-bits-take : (n : ℕ) (bs : List ℕ) → AllBits bs → AllBits (take n bs)
+pub bits-take : (n : ℕ) (bs : List ℕ) → AllBits bs → AllBits (take n bs)
 unfolding AllBits
 bits-take zero bs f = tt
 bits-take (suc n) [] f = tt
@@ -43,6 +41,11 @@ unfolding AllBits
 bits-drop zero bs f = f
 bits-drop (suc n) [] f = tt
 bits-drop (suc n) (b ∷ bs) (h, f) = bits-drop n bs f
+
+pub bits-of : (s : List ℕ) → AllBits (bitsOf s)
+unfolding AllBits bitsOf
+bits-of [] = tt
+bits-of (x ∷ s) = bits-append (natBits 8 x) (bitsOf s) (bits-natBits 8 x) (bits-of s)
 
 -- ---- the number that bits are
 
@@ -144,13 +147,6 @@ one-byte s k bs m l h f r x =
     ap (putList s (k * 8)) (sym n) ∙ sym (put-nat s (k * 8) v (suc m)) ∙ ap (λ (u : ℕ). putBits s u v (suc m)) (sym (add-zero (k * 8)))
     ∙ putBits-byte s k 0 v m r (omega arith) ∙ ap (set s k) w
 
-bytes-set : (s : List ℕ) (i x : ℕ) → ((j : ℕ) → getD s j 0 < 256) → x < 256 → (j : ℕ) → getD (set s i x) j 0 < 256
-bytes-set [] i x b h j = b j
-bytes-set (y ∷ ys) zero x b h zero = h
-bytes-set (y ∷ ys) zero x b h (suc j) = b (suc j)
-bytes-set (y ∷ ys) (suc i) x b h zero = b zero
-bytes-set (y ∷ ys) (suc i) x b h (suc j) = bytes-set ys i x (λ k. b (suc k)) h j
-
 put-bytes : (n : ℕ) (s : List ℕ) (k : ℕ) (bs : List ℕ) → byteLen (length bs) ≡ n → AllBits bs → ((j : ℕ) → getD s j 0 < 256) → k * 8 + length bs ≤ length s * 8
     → putList s (k * 8) bs ≡ sets s k (bytesOf n (bs ++ replicate 7 0))
 unfolding bytesOf putList
@@ -184,7 +180,7 @@ put-bytes (suc n) s k bs e f b h = go (ltb (length bs) 8) refl (λ u l c r. put-
         let ld = length-drop 8 bs in
         ap (putList s (k * 8)) (sym (take-append-drop 8 bs)) ∙ put-append s (k * 8) (take 8 bs) (drop 8 bs)
         ∙ ap₂ (λ (u : List ℕ) (q : ℕ). putList u q (drop 8 bs)) o p
-        ∙ ih (set s k y) (omega arith) (bytes-set s k y b yl) (omega (arith, length-set s k y))
+        ∙ ih (set s k y) (omega arith) (byte-set s k y b yl) (omega (arith, length-set s k y))
         ∙ ap₂ (λ (u v : List ℕ). sets (set s k (natFrom 0 u)) (suc k) (bytesOf n v)) (sym (take-append-le 8 bs (replicate 7 0) l)) (sym (drop-append-le 8 bs (replicate 7 0) l))
 
 pub put-packed : (s : List ℕ) (k : ℕ) (bs : List ℕ) → AllBits bs → ((j : ℕ) → getD s j 0 < 256) → k * 8 + length bs ≤ length s * 8

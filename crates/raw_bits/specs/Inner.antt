@@ -1,6 +1,7 @@
--- Bits of bytes, most significant first: bit p is bit 7 - p % 8 of byte p / 8.
+-- Bits of bytes by their positions, as our own functions move them: bit p is bit 7 - p % 8 of byte p / 8. No public statement cites
+-- this file: proofs/Written.antt says the same by lists of bits.
 use Prim.Native.Nat.{ℕ, zero, suc, _+_, _-_, _*_, _/_, _%_, _^_}
-use mathlib.Core.List.{List}
+use mathlib.Core.List.{List, [], _∷_}
 use lib.ListN.{getD, set}
 
 -- the bit at p
@@ -20,3 +21,8 @@ putBit s p b = set s (p / 8) (getD s (p / 8) 0 / 2 ^ (8 - p % 8) * 2 ^ (8 - p % 
 unfoldable pub putBits : List ℕ → ℕ → ℕ → ℕ → List ℕ
 putBits s p v zero = s
 putBits s p v (suc n) = putBit (putBits s p (v / 2) n) (p + n) (v % 2)
+
+-- bits put one after the other, from bit p of s on
+unfoldable pub putList : List ℕ → ℕ → List ℕ → List ℕ
+putList s p [] = s
+putList s p (b ∷ bs) = putList (putBit s p b) (p + 1) bs
