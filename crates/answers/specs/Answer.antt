@@ -1,6 +1,6 @@
 -- What an exported call answers, from what the call below it tells: document 01's number, 0 where it is not refused, and three values.
 use Prim.Native.Nat.{ℕ}
-use mathlib.Core.List.{List}
+use mathlib.Core.List.{List, [], _∷_}
 use lib.IntN.{ℤ}
 use lib.ListN.{getD}
 use Rattle.told.specs.Told.{Told, gave, refused}
@@ -12,46 +12,42 @@ use Rattle.tracker.specs.declared.Second.{Second}
 use Rattle.lookup.specs.Find.{Partner, partner, nothing}
 use Rattle.answers.specs.declared.Answer.{Answer}
 
--- not refused: the values, in order
-abbrev pub given : ℕ → ℕ → ℕ → Answer
-given a b c = record { number = 0; a = a; b = b; c = c }
+-- the number, and what is given or what the refusal also tells, in order; 0 where there is no more
+abbrev pub answerOf : List ℕ → Answer
+answerOf l = record { number = getD l 0 0; a = getD l 1 0; b = getD l 2 0; c = getD l 3 0 }
 
--- refused: the number, and what it also tells, in order; 0 where it tells no more
-abbrev pub refusedBy : List ℕ → Answer
-refusedBy what = record { number = getD what 0 0; a = getD what 1 0; b = getD what 2 0; c = getD what 3 0 }
+-- of a call that gives these values, or refuses
+abbrev pub of : {A : Type 0} → (A → List ℕ) → Told A → Answer
+of values (gave a) = answerOf (0 ∷ values a)
+of values (refused what) = answerOf what
 
 -- a count or a length
 abbrev pub ofCount : Told ℕ → Answer
-ofCount (gave n) = given n 0 0
-ofCount (refused what) = refusedBy what
+ofCount = of (λ n. n ∷ [])
 
 -- a signed number, by its 64 bits
 abbrev pub ofSigned : Told ℤ → Answer
-ofSigned (gave z) = given (pattern z) 0 0
-ofSigned (refused what) = refusedBy what
+ofSigned = of (λ z. pattern z ∷ [])
 
 -- the bits that were read, and the place after them: its byte, its bit
 abbrev pub ofPiece : Told Piece → Answer
-ofPiece (gave p) = given (p .value) (p .next .byte) (p .next .bit)
-ofPiece (refused what) = refusedBy what
+ofPiece = of (λ p. p .value ∷ p .next .byte ∷ p .next .bit ∷ [])
 
 -- the place after the bits that were written: its byte, its bit
 abbrev pub ofPlace : Told Place → Answer
-ofPlace (gave p) = given (p .byte) (p .bit) 0
-ofPlace (refused what) = refusedBy what
+ofPlace = of (λ p. p .byte ∷ p .bit ∷ [])
 
 -- a check: a good table gives no values
 abbrev pub ofCheck : Told (Unit {0}) → Answer
-ofCheck (gave _) = given 0 0 0
-ofCheck (refused what) = refusedBy what
+ofCheck = of (λ _. [])
 
--- a lookup: 1 and the partner (a second by its 64 bits), or 0 where nothing is answered
+-- a lookup: 1 and the partner's 64 bits, or 0 where nothing is answered
+abbrev pub found : {A : Type 0} → (A → ℕ) → Partner A → List ℕ
+found bits (partner x) = 1 ∷ bits x ∷ []
+found bits nothing = 0 ∷ []
+
 abbrev pub ofTs : Told (Partner Second) → Answer
-ofTs (gave (partner s)) = given 1 (pattern (s .0)) 0
-ofTs (gave nothing) = given 0 0 0
-ofTs (refused what) = refusedBy what
+ofTs = of (found (λ s. pattern (s .0)))
 
 abbrev pub ofSeq : Told (Partner Seq) → Answer
-ofSeq (gave (partner q)) = given 1 (q .0) 0
-ofSeq (gave nothing) = given 0 0 0
-ofSeq (refused what) = refusedBy what
+ofSeq = of (found (λ q. q .0))

@@ -4,7 +4,7 @@ ghost use Rattle.gorilla.specs.Array.{arrayNo};
 ghost use Rattle.code_reader.specs.Refusal as reader;
 ghost use Rattle.encoder.specs.Encode as encoding;
 ghost use Rattle.tracker.specs.Refusal as table;
-ghost use Rattle.answers.specs.Answer.{refusedBy};
+ghost use Rattle.answers.specs.Answer.{answerOf};
 use crate::Answer;
 use gorilla::Array;
 
@@ -31,7 +31,7 @@ fn array_no(array: Array) -> u64
 
 // Of the readers.
 pub fn reading(why: decoder::Refusal) -> Answer
-    ensures { λ r. ⌜ r ≡ refusedBy (reader.told why) ⌝ }
+    ensures { λ r. ⌜ r ≡ answerOf (reader.told why) ⌝ }
 {
     match why {
         decoder::Refusal::Empty => answer(1, 0, 0, 0),
@@ -51,7 +51,7 @@ pub fn reading(why: decoder::Refusal) -> Answer
 
 // Of the encoders.
 pub fn encoding(why: encoder::Refusal) -> Answer
-    ensures { λ r. ⌜ r ≡ refusedBy (encoding.told why) ⌝ }
+    ensures { λ r. ⌜ r ≡ answerOf (encoding.told why) ⌝ }
 {
     match why {
         encoder::Refusal::LengthsDiffer => answer(18, 0, 0, 0),
@@ -63,7 +63,7 @@ pub fn encoding(why: encoder::Refusal) -> Answer
 
 // Of a table's calls.
 pub fn of_table(why: tracker::Refusal) -> Answer
-    ensures { λ r. ⌜ r ≡ refusedBy (table.told why) ⌝ }
+    ensures { λ r. ⌜ r ≡ answerOf (table.told why) ⌝ }
 {
     match why {
         tracker::Refusal::Disagrees => answer(14, 0, 0, 0),

@@ -10,8 +10,8 @@ use Rattle.offers.specs.Offer.{toldOffer, offeredTo, offering}
 use Rattle.offers.specs.declared.Offered.{Offered}
 use Rattle.offers.specs.declared.Offered.the-variants.{Recorded, Skipped, Refused}
 use Rattle.told.specs.Told.{gave}
-use Rattle.log.specs.Log.{done, counted, unlessRefused, runOf}
-use Rattle.log.specs.Inner.{total, leftBy, standing, endOf, goingOf, stoppedOf, Steps}
+use Rattle.log.specs.Log.{done, counted, unless, runOf}
+use Rattle.log.specs.Inner.{stoppedAt, total, leftBy, standing, endOf, goingOf, stoppedOf, Steps}
 use Rattle.log.specs.declared.inner.Progress.{Progress}
 
 -- the progress after an offer's answer
@@ -22,7 +22,7 @@ moved p (Refused why) = stoppedOf (p .table) (p .tally) why
 
 module _ (p : Progress) (seqs : List ℕ) (secs : List ℤ) (r : TrackedSeq) where
   moved-by : (a : Offered) → let w = offeredTo (standing p seqs secs) (r .seq) (r .ts) (toldOffer a) in
-      leftBy (moved p a) (w .seqs) (w .secs) ≡ unlessRefused (toldOffer a) (total (p .tally)) (standing p seqs secs) (p .tally) (leaving (gave (done (w .state) (counted (toldOffer a) (p .tally)))) w)
+      leftBy (moved p a) (w .seqs) (w .secs) ≡ unless (toldOffer a) (stoppedAt (standing p seqs secs) (p .tally) (total (p .tally))) (leaving (gave (done (w .state) (counted (toldOffer a) (p .tally)))) w)
   moved-by (Recorded grown) = refl
   moved-by Skipped = refl
   moved-by (Refused why) = refl

@@ -9,34 +9,33 @@ use lib.ListN.{length, getD, length-append}
 use lib.Seq.{getD-append-seam}
 use Rattle.told.specs.Told.{Told, gave, refused}
 use Rattle.limits.specs.Domain.{outside}
-use Rattle.tracker.specs.Table.{checkOf}
 use Rattle.tracker.specs.declared.TrackedSeq.{TrackedSeq}
 use Rattle.tracker.specs.declared.SequenceTracker.{SequenceTracker}
 use Rattle.order.proofs.Bools.{not-given}
 use Rattle.offers.specs.Whole.{Table, checkIn, Left}
 use Rattle.offers.specs.Offer.{Outcome, recorded, skipped, tooSoon, lowSeq, offeredTo}
 use Rattle.offers.proofs.Preserved.{stays-good}
-use Rattle.log.specs.Log.{Log, done, stopped, counted, tells, afterRecord, unlessRefused, runOf}
-use Rattle.log.specs.Inner.{total}
+use Rattle.log.specs.Log.{Log, done, stopped, counted, unless, runOf}
+use Rattle.log.specs.Inner.{tells, afterRecord, stoppedAt, total}
 use Rattle.log.specs.declared.Tally.{Tally}
 
--- the table that a log tells
-abbrev pub stateIn : Told Log → SequenceTracker → SequenceTracker
-stateIn (gave (done t n)) table = t
-stateIn (gave (stopped what t n)) table = t
-stateIn (refused what) table = table
+-- a log leaves a good table good, and the state that it tells is that table's
+abbrev pub StateIs : Told Log → SequenceTracker → Type 0
+StateIs (gave (done t n)) state = t ≡ state
+StateIs (gave (stopped what t n)) state = t ≡ state
+StateIs (refused what) state = Unit {0}
 
-abbrev pub GoodLeft : SequenceTracker → Left (Told Log) → Type 0
-GoodLeft table l = checkOf (stateIn (l .answer) table) (l .seqs) (l .secs) ≡ gave tt
+abbrev pub GoodLeft : Left (Told Log) → Type 0
+GoodLeft l = (checkIn (l .table) ≡ gave tt) × StateIs (l .answer) (l .table .state)
 
-pub run-good : (table : SequenceTracker) (w : Table) (n : Tally) (i : ℕ) (rs : List TrackedSeq) → checkIn w ≡ gave tt → GoodLeft table (runOf w n i rs)
+pub run-good : (w : Table) (n : Tally) (i : ℕ) (rs : List TrackedSeq) → checkIn w ≡ gave tt → GoodLeft (runOf w n i rs)
 unfolding runOf
-run-good table w n i [] g = g
-run-good table w n i (r ∷ rs) g = go (tells w r) (runOf (afterRecord w r) (counted (tells w r) n) (i + 1) rs) (run-good table (afterRecord w r) (counted (tells w r) n) (i + 1) rs (stays-good (w .state) (w .seqs) (w .secs) (r .seq) (r .ts) (tells w r) refl g))
+run-good w n i [] g = (g, refl)
+run-good w n i (r ∷ rs) g = go (tells w r) (runOf (afterRecord w r) (counted (tells w r) n) (i + 1) rs) (run-good (afterRecord w r) (counted (tells w r) n) (i + 1) rs (stays-good (w .state) (w .seqs) (w .secs) (r .seq) (r .ts) (tells w r) refl g))
   where
-    go : (o : Told Outcome) (l : Left (Told Log)) → GoodLeft table l → GoodLeft table (unlessRefused o i w n l)
+    go : (o : Told Outcome) (l : Left (Told Log)) → GoodLeft l → GoodLeft (unless o (stoppedAt w n i) l)
     go (gave o) l h = h
-    go (refused what) l h = g
+    go (refused what) l h = (g, refl)
 
 -- what is told last
 abbrev pub lastOf : List ℕ → ℕ
@@ -61,7 +60,7 @@ run-counted w n i (r ∷ rs) h = go (tells w r) (λ (o : Outcome). run-counted (
     one-more skipped = omega (arith, h)
 
     go : (o : Told Outcome) → ((o : Outcome) → Counted (i + 1 + length rs) (runOf (offeredTo w (r .seq) (r .ts) (gave o)) (counted (gave o) n) (i + 1) rs .answer))
-        → Counted (i + suc (length rs)) (unlessRefused o i w n (runOf (offeredTo w (r .seq) (r .ts) o) (counted o n) (i + 1) rs) .answer)
+        → Counted (i + suc (length rs)) (unless o (stoppedAt w n i) (runOf (offeredTo w (r .seq) (r .ts) o) (counted o n) (i + 1) rs) .answer)
     go (gave o) k = let e : i + suc (length rs) ≡ i + 1 + length rs = omega arith in rw e (k o)
     go (refused what) k = (last-is what i ∙ sym h, omega (arith, h))
 
@@ -89,6 +88,6 @@ unfolding runOf
 run-stops w n i [] g = tt
 run-stops w n i (r ∷ rs) g = go (tells w r) refl (runOf (afterRecord w r) (counted (tells w r) n) (i + 1) rs) (run-stops (afterRecord w r) (counted (tells w r) n) (i + 1) rs (stays-good (w .state) (w .seqs) (w .secs) (r .seq) (r .ts) (tells w r) refl g))
   where
-    go : (o : Told Outcome) → tells w r ≡ o → (l : Left (Told Log)) → Stops (l .answer) → Stops (unlessRefused o i w n l .answer)
+    go : (o : Told Outcome) → tells w r ≡ o → (l : Left (Told Log)) → Stops (l .answer) → Stops (unless o (stoppedAt w n i) l .answer)
     go (gave o) f l h = h
     go (refused what) f l h = ⊎-elim (λ (e : what ≡ 16 ∷ []). inl (rw e)) (λ (e : what ≡ 17 ∷ []). inr (rw e)) (offer-refuses w r what g f)

@@ -12,12 +12,12 @@ use Rattle.told.specs.Told.{Told, gave, refused}
 use Rattle.tracker.specs.Table.{checkOf}
 use Rattle.tracker.specs.declared.TrackedSeq.{TrackedSeq}
 use Rattle.tracker.specs.declared.SequenceTracker.{SequenceTracker}
-use Rattle.offers.specs.Whole.{Table, whole, checkIn, Left, leaving}
+use Rattle.offers.specs.Whole.{Table, whole, checkIn, Left, leaving, Leaves}
 use Rattle.offers.specs.Offer.{Outcome, recorded, skipped, offeredTo}
 use Rattle.offers.proofs.Preserved.{stays-good}
-use Rattle.log.specs.Log.{Log, done, stopped, noneYet, counted, tells, afterRecord, unlessRefused, runOf, unlessBad, logOf}
+use Rattle.log.specs.Log.{Log, done, stopped, noneYet, counted, unless, runOf, logOf}
 use Rattle.log.specs.Pairs.{pairOf}
-use Rattle.log.specs.Inner.{total, toldIn, leftBy, standing, endOf, goingOf, Begins, Steps}
+use Rattle.log.specs.Inner.{tells, stoppedAt, total, toldIn, toldProgress, leftBy, standing, endOf, goingOf, Begins, Steps}
 use Rattle.log.specs.declared.Tally.{Tally}
 use Rattle.log.specs.declared.inner.Phase.{Phase}
 use Rattle.log.specs.declared.inner.Phase.the-variants.{Going, Bad, Stopped}
@@ -30,21 +30,21 @@ noRecord = pairOf 0 (pos 0)
 abbrev pub Leaving : Type 0
 Leaving = Left (Told Log)
 
--- what a log leaves that stood so, and goes on with the records from i on
-abbrev pub resumed : Told Log → List ℕ → List ℤ → ℕ → List TrackedSeq → Leaving
-resumed (gave (done t n)) seqs secs i rs = runOf (whole t seqs secs) n i rs
-resumed (gave (stopped what t n)) seqs secs i rs = record { answer = gave (stopped what t n); seqs = seqs; secs = secs }
-resumed (refused what) seqs secs i rs = record { answer = refused what; seqs = seqs; secs = secs }
+-- what a log leaves that told this, and goes on with the records from i on
+abbrev pub resumed : Told Log → Table → ℕ → List TrackedSeq → Leaving
+resumed (gave (done t n)) w i rs = runOf w n i rs
+resumed (gave (stopped what t n)) w i rs = leaving (gave (stopped what t n)) w
+resumed (refused what) w i rs = leaving (refused what) w
 
 abbrev pub onward : Leaving → ℕ → List TrackedSeq → Leaving
-onward l i rs = resumed (l .answer) (l .seqs) (l .secs) i rs
+onward l i rs = resumed (l .answer) (l .table) i rs
 
 -- a log goes on after no record, and after one
 pub from-none : (w : Table) (rs : List TrackedSeq) → logOf w rs ≡ onward (logOf w []) 0 rs
 unfolding runOf
 from-none w rs = go (checkIn w)
   where
-    go : (o : Told (Unit {0})) → unlessBad o w (runOf w noneYet 0 rs) ≡ onward (unlessBad o w (runOf w noneYet 0 [])) 0 rs
+    go : (o : Told (Unit {0})) → unless o (λ what. leaving (refused what) w) (runOf w noneYet 0 rs) ≡ onward (unless o (λ what. leaving (refused what) w) (runOf w noneYet 0 [])) 0 rs
     go (gave _) = refl
     go (refused what) = refl
 
@@ -52,7 +52,7 @@ pub from-one : (w : Table) (n : Tally) (i : ℕ) (r : TrackedSeq) (rs : List Tra
 unfolding runOf
 from-one w n i r rs = go (tells w r)
   where
-    go : (o : Told Outcome) → let w′ = offeredTo w (r .seq) (r .ts) o in unlessRefused o i w n (runOf w′ (counted o n) (i + 1) rs) ≡ onward (unlessRefused o i w n (runOf w′ (counted o n) (i + 1) [])) (i + 1) rs
+    go : (o : Told Outcome) → let w′ = offeredTo w (r .seq) (r .ts) o in unless o (stoppedAt w n i) (runOf w′ (counted o n) (i + 1) rs) ≡ onward (unless o (stoppedAt w n i) (runOf w′ (counted o n) (i + 1) [])) (i + 1) rs
     go (gave _) = refl
     go (refused what) = refl
 
@@ -81,10 +81,10 @@ module _ (t : Progress) (seqs : List ℕ) (secs : List ℤ) (w : Table) (n : Tal
     pub seqs-are : seqs ≡ w .seqs
     pub secs-are : secs ≡ w .secs
 
-  stands : record { answer = gave (done (t .table) (t .tally)); seqs = seqs; secs = secs } ≡ leaving (gave (done (w .state) n)) w → Stands
+  stands : leaving (gave (done (t .table) (t .tally))) (standing t seqs secs) ≡ leaving (gave (done (w .state) n)) w → Stands
   stands e =
       let a = ap (λ (l : Leaving). l .answer) e in
-      record { table = cc a; tally = cc a; seqs-are = ap (λ (l : Leaving). l .seqs) e; secs-are = ap (λ (l : Leaving). l .secs) e }
+      record { table = cc a; tally = cc a; seqs-are = ap (λ (l : Leaving). l .table .seqs) e; secs-are = ap (λ (l : Leaving). l .table .secs) e }
 
 -- one that goes on has not stopped
 not-stopped : {A : Type 0} (t : SequenceTracker) (n : Tally) (what : List ℕ) (t′ : SequenceTracker) (n′ : Tally) → _≡_ {A = Told Log} (gave (done t n)) (gave (stopped what t′ n′)) → A
@@ -106,14 +106,14 @@ begun w rs t seqs′ secs′ e = record {
   alive = go (t .phase) (e .0) (e .1);
 }
   where
-    fresh : (o : Told (Unit {0})) → checkIn w ≡ o → record { answer = gave (done (t .table) (t .tally)); seqs = seqs′; secs = secs′ } ≡ unlessBad o w (leaving (gave (done (w .state) noneYet)) w)
+    fresh : (o : Told (Unit {0})) → checkIn w ≡ o → leaving (gave (done (t .table) (t .tally))) (standing t seqs′ secs′) ≡ unless o (λ what. leaving (refused what) w) (leaving (gave (done (w .state) noneYet)) w)
         → (checkOf (t .table) seqs′ secs′ ≡ gave tt) × (total (t .tally) ≡ 0)
     fresh (gave tt) f e =
         let s = stands t seqs′ secs′ w noneYet e in
         (rw (s .table, s .seqs-are, s .secs-are) f, ap total (s .tally))
     fresh (refused what) f e = not-bad _ _ _ (ap (λ (l : Leaving). l .answer) e)
 
-    go : (f : Phase) → record { answer = toldIn f t; seqs = seqs′; secs = secs′ } ≡ logOf w [] → t .end ≡ endOf f (length rs) → Alive f t seqs′ secs′ 0 (length rs)
+    go : (f : Phase) → leaving (toldIn f t) (standing t seqs′ secs′) ≡ logOf w [] → t .end ≡ endOf f (length rs) → Alive f t seqs′ secs′ 0 (length rs)
     go Going e n = let a = fresh (checkIn w) refl e in (a .0, a .1, n)
     go (Bad why) e n = n
     go (Stopped at why) e n = n
@@ -141,7 +141,7 @@ module _ {all : Leaving} {rs : List TrackedSeq} {p : Progress} {seqs : List ℕ}
     still : onward (leftBy p seqs secs) i (drop i rs) ≡ runOf (standing p seqs secs) (p .tally) i (drop i rs)
     still = go (p .phase) (u .alive)
       where
-        go : (f : Phase) → Alive f p seqs secs i (length rs) → resumed (toldIn f p) seqs secs i (drop i rs) ≡ runOf (standing p seqs secs) (p .tally) i (drop i rs)
+        go : (f : Phase) → Alive f p seqs secs i (length rs) → resumed (toldIn f p) (standing p seqs secs) i (drop i rs) ≡ runOf (standing p seqs secs) (p .tally) i (drop i rs)
         go Going a = refl
         go (Bad why) a = absurd (omega arith)
         go (Stopped at why) a = absurd (omega arith)
@@ -167,25 +167,29 @@ module _ {all : Leaving} {rs : List TrackedSeq} {p : Progress} {seqs : List ℕ}
         one-more skipped = omega (arith, live .total-is)
 
         stepped : (o : Told Outcome) → tells (standing p seqs secs) r ≡ o
-            → record { answer = gave (done (t .table) (t .tally)); seqs = seqs′; secs = secs′ }
-            ≡ unlessRefused o i (standing p seqs secs) (p .tally) (let w = offeredTo (standing p seqs secs) (r .seq) (r .ts) o in leaving (gave (done (w .state) (counted o (p .tally)))) w)
+            → leaving (gave (done (t .table) (t .tally))) (standing t seqs′ secs′)
+            ≡ unless o (stoppedAt (standing p seqs secs) (p .tally) i) (let w = offeredTo (standing p seqs secs) (r .seq) (r .ts) o in leaving (gave (done (w .state) (counted o (p .tally)))) w)
             → (checkOf (t .table) seqs′ secs′ ≡ gave tt) × (total (t .tally) ≡ i + 1)
         stepped (gave o) f e =
             let s = stands t seqs′ secs′ (offeredTo (standing p seqs secs) (r .seq) (r .ts) (gave o)) (counted (gave o) (p .tally)) e in
             (rw (s .table, s .seqs-are, s .secs-are) (stays-good (p .table) seqs secs (r .seq) (r .ts) (gave o) f (live .good)), ap total (s .tally) ∙ one-more o)
         stepped (refused what) f e = not-stopped _ _ _ _ _ (ap (λ (l : Leaving). l .answer) e)
 
-        go : (f : Phase) → record { answer = toldIn f t; seqs = seqs′; secs = secs′ } ≡ runOf (standing p seqs secs) (p .tally) i (r ∷ []) → t .end ≡ endOf f (p .end) → Alive f t seqs′ secs′ (i + 1) (length rs)
+        go : (f : Phase) → leaving (toldIn f t) (standing t seqs′ secs′) ≡ runOf (standing p seqs secs) (p .tally) i (r ∷ []) → t .end ≡ endOf f (p .end) → Alive f t seqs′ secs′ (i + 1) (length rs)
         go Going e n = let a = stepped (tells (standing p seqs secs) r) refl e in (a .0, a .1, n ∙ live .ends)
         go (Bad why) e n = n
         go (Stopped at why) e n = n
 
   -- at the end nothing is left
-  pub over : p .end ≤ i → all ≡ leftBy p seqs secs
+  over : p .end ≤ i → all ≡ leftBy p seqs secs
   unfolding runOf
   over h = u .so-far ∙ go (p .phase) (u .alive)
     where
-      go : (f : Phase) → Alive f p seqs secs i (length rs) → resumed (toldIn f p) seqs secs i (drop i rs) ≡ record { answer = toldIn f p; seqs = seqs; secs = secs }
+      go : (f : Phase) → Alive f p seqs secs i (length rs) → resumed (toldIn f p) (standing p seqs secs) i (drop i rs) ≡ leaving (toldIn f p) (standing p seqs secs)
       go Going a = rw (drop-of-length-le rs {i = i} (omega (arith, a .2)))
       go (Bad why) a = refl
       go (Stopped at why) a = refl
+
+  -- so a call leaves this, whose answer tells what the progress tells
+  pub ended : p .end ≤ i → {told : Told Log} → told ≡ toldProgress p → Leaves all told seqs secs
+  ended h e = let l = over h in (e ∙ sym (ap (λ (x : Leaving). x .answer) l), sym (ap (λ (x : Leaving). x .table .seqs) l), sym (ap (λ (x : Leaving). x .table .secs) l))

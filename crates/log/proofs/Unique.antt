@@ -13,7 +13,7 @@ use Rattle.tracker.specs.declared.Refusal.the-variants.{Disagrees, SequenceDrop
 use Rattle.tracker.proofs.Unique.{undone, refusalOf}
 use Rattle.offers.specs.Whole.{Left, Leaves}
 use Rattle.offers.proofs.Unique.{one-left}
-use Rattle.log.specs.Log.{Log, done, stopped, ownTable, otherTable, toldLog}
+use Rattle.log.specs.Log.{Log, done, stopped, toldLog}
 use Rattle.log.proofs.Preserved.{lastOf}
 use Rattle.log.specs.declared.Logged.{Logged}
 use Rattle.log.specs.declared.Logged.the-variants.{Done, Stopped, Refused, OwnRefused, OtherRefused, LengthsDiffer}
@@ -33,7 +33,7 @@ refusedOf : List ℕ → Logged
 refusedOf l =
     cond (eqb (getD l 0 0) 18) LengthsDiffer
     (cond (eqb (length l) (length (told (refusalOf l)))) (Refused (refusalOf l))
-    (cond (eqb (lastOf l) ownTable) (OwnRefused (refusalOf l)) (OtherRefused (refusalOf l))))
+    (cond (eqb (lastOf l) 0) (OwnRefused (refusalOf l)) (OtherRefused (refusalOf l))))
 
 loggedOf : Told Log → Logged
 loggedOf (gave (done table n)) = Done table n
@@ -54,7 +54,7 @@ one-log = undone toldLog loggedOf (λ a. back a)
     alone OfferedOutside = refl
     alone OfferedDrops = refl
 
-    of-two : (which : ℕ) (why : Refusal) → refusedOf (told why ++ (which ∷ [])) ≡ cond (eqb which ownTable) (OwnRefused why) (OtherRefused why)
+    of-two : (which : ℕ) (why : Refusal) → refusedOf (told why ++ (which ∷ [])) ≡ cond (eqb which 0) (OwnRefused why) (OtherRefused why)
     of-two which (SequenceDrops i) = refl
     of-two which (SecondDrops i) = refl
     of-two which (SecondOutside i) = refl
@@ -67,8 +67,8 @@ one-log = undone toldLog loggedOf (λ a. back a)
     back (Done table n) = refl
     back (Stopped at why table n) = rw (last-back why at .0, last-back why at .1)
     back (Refused why) = alone why
-    back (OwnRefused why) = of-two ownTable why
-    back (OtherRefused why) = of-two otherTable why
+    back (OwnRefused why) = of-two 0 why
+    back (OtherRefused why) = of-two 1 why
     back LengthsDiffer = refl
 
 -- of `offer_all`, `offer_pairs` and `extend_from`

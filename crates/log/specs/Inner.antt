@@ -10,13 +10,25 @@ use Rattle.tracker.specs.Refusal.{told}
 use Rattle.tracker.specs.declared.Refusal.{Refusal}
 use Rattle.tracker.specs.declared.TrackedSeq.{TrackedSeq}
 use Rattle.tracker.specs.declared.SequenceTracker.{SequenceTracker}
-use Rattle.offers.specs.Whole.{Table, whole, Left}
+use Rattle.offers.specs.Whole.{Table, whole, Left, leaving}
+use Rattle.offers.specs.Offer.{Outcome, offerTo, offeredTo}
 use Rattle.log.specs.Log.{Log, done, stopped, noneYet, runOf, logOf}
 use Rattle.log.specs.Pairs.{recordsOf}
 use Rattle.log.specs.declared.Tally.{Tally}
 use Rattle.log.specs.declared.inner.Phase.{Phase}
 use Rattle.log.specs.declared.inner.Phase.the-variants.{Going, Bad, Stopped}
 use Rattle.log.specs.declared.inner.Progress.{Progress}
+
+-- what a record's offer tells, and the table after it
+abbrev pub tells : Table → TrackedSeq → Told Outcome
+tells w r = offerTo w (r .seq) (r .ts)
+
+abbrev pub afterRecord : Table → TrackedSeq → Table
+afterRecord w r = offeredTo w (r .seq) (r .ts) (tells w r)
+
+-- a log that a refusal of the record at i stops
+abbrev pub stoppedAt : Table → Tally → ℕ → List ℕ → Left (Told Log)
+stoppedAt w n i what = leaving (gave (stopped (what ++ (i ∷ [])) (w .state) n)) w
 
 -- how many records a tally counts
 abbrev pub total : Tally → ℕ
@@ -31,13 +43,13 @@ toldIn (Stopped at why) p = gave (stopped (told why ++ (at ∷ [])) (p .table) (
 abbrev pub toldProgress : Progress → Told Log
 toldProgress p = toldIn (p .phase) p
 
--- what it leaves if it ends here
-abbrev pub leftBy : Progress → List ℕ → List ℤ → Left (Told Log)
-leftBy p seqs secs = record { answer = toldProgress p; seqs = seqs; secs = secs }
-
 -- the table whole
 abbrev pub standing : Progress → List ℕ → List ℤ → Table
 standing p seqs secs = whole (p .table) seqs secs
+
+-- what it leaves if it ends here
+abbrev pub leftBy : Progress → List ℕ → List ℤ → Left (Told Log)
+leftBy p seqs secs = leaving (toldProgress p) (standing p seqs secs)
 
 -- how many records there are to come to: none, once the log has stopped
 abbrev pub endOf : Phase → ℕ → ℕ

@@ -17,20 +17,14 @@ pub data Log : Type 0 where
   done : SequenceTracker → Tally → Log
   stopped : List ℕ → SequenceTracker → Tally → Log
 
--- which of two tables was bad
-abbrev pub ownTable : ℕ
-ownTable = 0
-
-abbrev pub otherTable : ℕ
-otherTable = 1
-
--- what a log tells: a bad table has no position; of two tables it tells, last, which was bad; two lists of different length are 18
+-- what a log tells: a bad table has no position; of two tables it tells, last, which was bad, 0 the own and 1 the other; two lists of
+-- different length are 18
 abbrev pub toldLog : Logged → Told Log
 toldLog (Done table n) = gave (done table n)
 toldLog (Stopped at why table n) = gave (stopped (told why ++ (at ∷ [])) table n)
 toldLog (Refused why) = refused (told why)
-toldLog (OwnRefused why) = refused (told why ++ (ownTable ∷ []))
-toldLog (OtherRefused why) = refused (told why ++ (otherTable ∷ []))
+toldLog (OwnRefused why) = refused (told why ++ (0 ∷ []))
+toldLog (OtherRefused why) = refused (told why ++ (1 ∷ []))
 toldLog LengthsDiffer = refused (18 ∷ [])
 
 -- before the first record
@@ -43,28 +37,19 @@ counted (gave (recorded t)) n = record { recorded = n .recorded + 1; skipped = n
 counted (gave skipped) n = record { recorded = n .recorded; skipped = n .skipped + 1 }
 counted (refused what) n = n
 
--- what a record's offer tells, and the table after it
-abbrev pub tells : Table → TrackedSeq → Told Outcome
-tells w r = offerTo w (r .seq) (r .ts)
-
-abbrev pub afterRecord : Table → TrackedSeq → Table
-afterRecord w r = offeredTo w (r .seq) (r .ts) (tells w r)
-
--- a refusal of the record at i stops the log; else it goes on
-abbrev pub unlessRefused : Told Outcome → ℕ → Table → Tally → Left (Told Log) → Left (Told Log)
-unlessRefused (gave _) i w n more = more
-unlessRefused (refused what) i w n more = leaving (gave (stopped (what ++ (i ∷ [])) (w .state) n)) w
+-- what is left of a refusal, else what follows
+abbrev pub unless : {A B : Type 0} → Told A → (List ℕ → B) → B → B
+unless (gave _) stop next = next
+unless (refused what) stop next = stop what
 
 -- the records from position i on, in order, up to the first refusal
 unfoldable pub runOf : Table → Tally → ℕ → List TrackedSeq → Left (Told Log)
 runOf w n i [] = leaving (gave (done (w .state) n)) w
-runOf w n i (r ∷ rs) = unlessRefused (tells w r) i w n (runOf (afterRecord w r) (counted (tells w r) n) (i + 1) rs)
+runOf w n i (r ∷ rs) =
+    let told = offerTo w (r .seq) (r .ts) in
+    unless told (λ what. leaving (gave (stopped (what ++ (i ∷ [])) (w .state) n)) w)
+    (runOf (offeredTo w (r .seq) (r .ts) told) (counted told n) (i + 1) rs)
 
--- a bad table refuses before the first record, and the arrays are as before
-abbrev pub unlessBad : Told (Unit {0}) → Table → Left (Told Log) → Left (Told Log)
-unlessBad (gave _) w more = more
-unlessBad (refused what) w more = leaving (refused what) w
-
--- a log of offers to a table
+-- a log of offers to a table: a bad one refuses before the first record, and is as before
 abbrev pub logOf : Table → List TrackedSeq → Left (Told Log)
-logOf w records = unlessBad (checkIn w) w (runOf w noneYet 0 records)
+logOf w records = unless (checkIn w) (λ what. leaving (refused what) w) (runOf w noneYet 0 records)

@@ -9,7 +9,7 @@ use Rattle.told.specs.Told.{Told, gave, refused}
 use Rattle.tracker.specs.Table.{kept}
 use Rattle.tracker.specs.declared.TrackedSeq.{TrackedSeq}
 use Rattle.offers.specs.Whole.{Table, checkIn, Left, leaving}
-use Rattle.log.specs.Log.{Log, ownTable, otherTable, noneYet, runOf, unlessBad, logOf}
+use Rattle.log.specs.Log.{Log, noneYet, unless, runOf, logOf}
 
 -- a sequence and a second as a record
 abbrev pub pairOf : ℕ → ℤ → TrackedSeq
@@ -25,14 +25,10 @@ recordsOf (q ∷ seqs) [] = []
 abbrev pub pairsLogOf : Table → List ℕ → List ℤ → Left (Told Log)
 pairsLogOf w seqs secs = cond (eqb (length seqs) (length secs)) (logOf w (recordsOf seqs secs)) (leaving (refused (18 ∷ [])) w)
 
--- a refusal also tells, last, which table was bad
-abbrev pub ofTable : {A : Type 0} → ℕ → Told A → Told A
-ofTable which (gave a) = gave a
-ofTable which (refused what) = refused (what ++ (which ∷ []))
-
--- `extend_from`: the own table is checked, then the other one; then the pairs that the other keeps are offered in order
+-- `extend_from`: the own table is checked, then the other one, and a refusal also tells, last, which was bad; then the pairs that the
+-- other keeps are offered in order
 abbrev pub extendOf : Table → Table → Left (Told Log)
 extendOf w other =
-    unlessBad (ofTable ownTable (checkIn w)) w
-    (unlessBad (ofTable otherTable (checkIn other)) w
+    unless (checkIn w) (λ what. leaving (refused (what ++ (0 ∷ []))) w)
+    (unless (checkIn other) (λ what. leaving (refused (what ++ (1 ∷ []))) w)
     (runOf w noneYet 0 (recordsOf (kept (other .state) (other .seqs)) (kept (other .state) (other .secs)))))

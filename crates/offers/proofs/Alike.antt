@@ -13,8 +13,9 @@ use Rattle.tracker.specs.declared.Seq.{Seq}
 use Rattle.tracker.specs.declared.Second.{Second}
 use Rattle.tracker.specs.declared.SequenceTracker.{SequenceTracker}
 use Rattle.tracker.proofs.Kept.{kept-at, check-kept}
+use Rattle.offers.specs.Whole.{whole}
 use Rattle.offers.specs.Keep.{keptWith}
-use Rattle.offers.specs.Offer.{Outcome, recorded, skipped, lowSeq, offerOf, after, stateAfter}
+use Rattle.offers.specs.Offer.{Outcome, recorded, skipped, lowSeq, offerTo, offeredTo}
 use Rattle.offers.proofs.Preserved.{taken, recorded-seqs, recorded-secs, same-lengths}
 
 -- two pairs of arrays that keep the same pairs of a table, and have the room that it needs
@@ -35,7 +36,7 @@ keptWith-same table xs ys x e = rw e
 
 module _ (table : SequenceTracker) (seqs seqs′ : List ℕ) (secs secs′ : List ℤ) (seq : Seq) (ts : Second) (a : Alike table seqs seqs′ secs secs′) where
   -- the same is told
-  pub alike-told : offerOf table seqs secs seq ts ≡ offerOf table seqs′ secs′ seq ts
+  pub alike-told : offerTo (whole table seqs secs) seq ts ≡ offerTo (whole table seqs′ secs′) seq ts
   alike-told =
       let room = roomOf (table .capacity) in
       let checked : checkOf table seqs secs ≡ checkOf table seqs′ secs′ =
@@ -45,8 +46,8 @@ module _ (table : SequenceTracker) (seqs seqs′ : List ℕ) (secs secs′ : Lis
       rw (checked, low-kept seqs seqs′ (table .count) (seq .0) (a .same-seqs), keptWith-same table seqs seqs′ (seq .0) (a .same-seqs))
 
   -- and the arrays are alike afterwards
-  pub alike-after : (o : Told Outcome) → offerOf table seqs secs seq ts ≡ o
-      → Alike (stateAfter o table) (after o table seqs (seq .0)) (after o table seqs′ (seq .0)) (after o table secs (ts .0)) (after o table secs′ (ts .0))
+  pub alike-after : (o : Told Outcome) → offerTo (whole table seqs secs) seq ts ≡ o
+      → let w = offeredTo (whole table seqs secs) seq ts o in let v = offeredTo (whole table seqs′ secs′) seq ts o in Alike (w .state) (w .seqs) (v .seqs) (w .secs) (v .secs)
   alike-after (gave skipped) h = a
   alike-after (refused what) h = a
   alike-after (gave (recorded t)) h =

@@ -15,8 +15,9 @@ use Rattle.tracker.specs.declared.Second.{Second}
 use Rattle.tracker.specs.declared.SequenceTracker.{SequenceTracker}
 use Rattle.order.proofs.Bools.{below-or}
 use Rattle.tracker.proofs.Good.{Agreed, fine, count-seqs, count-secs}
+use Rattle.offers.specs.Whole.{whole}
 use Rattle.offers.specs.Keep.{appended, thinned, countWith}
-use Rattle.offers.specs.Offer.{recorded, offerOf, after}
+use Rattle.offers.specs.Offer.{recorded, offerTo, offeredTo}
 use Rattle.offers.proofs.Thinned.{getD-evens, appended-new, thinned-not, thinned-evens}
 use Rattle.offers.proofs.Preserved.{taken, recorded-seqs, recorded-secs, recorded-count}
 
@@ -33,7 +34,7 @@ last-new d n xs x cap half fit few even =
     rw (thinned-evens n xs x fit cap h, le-ltb n cap h) (getD-evens d (appended n xs x) (n / 2 + 1 - 1) ∙ ap (λ (i : ℕ). getD (appended n xs x) i d) e ∙ appended-new n xs x fit d))
     (below-or n cap)
 
-module _ (table : SequenceTracker) (seqs : List ℕ) (secs : List ℤ) (seq : Seq) (ts : Second) (t : SequenceTracker) (h : offerOf table seqs secs seq ts ≡ gave (recorded t))
+module _ (table : SequenceTracker) (seqs : List ℕ) (secs : List ℤ) (seq : Seq) (ts : Second) (t : SequenceTracker) (h : offerTo (whole table seqs secs) seq ts ≡ gave (recorded t))
     (half : ℕ) (even : table .capacity ≡ half + half) (some : 0 < half) where
   ok : Agreed table seqs secs
   ok = fine table seqs secs (taken table seqs secs seq ts t h .good) .state
@@ -41,8 +42,8 @@ module _ (table : SequenceTracker) (seqs : List ℕ) (secs : List ℤ) (seq : Se
   few : table .count ≤ table .capacity
   few = let e : roomOf (table .capacity) ≡ table .capacity = rw (ne-eqb (table .capacity) 0 (λ z. omega arith)) in omega (arith, ok .count-room)
 
-  pub newest-seq : getD (kept t (after (gave (recorded t)) table seqs (seq .0))) (t .count - 1) 0 ≡ seq .0
+  pub newest-seq : getD (kept t (offeredTo (whole table seqs secs) seq ts (gave (recorded t)) .seqs)) (t .count - 1) 0 ≡ seq .0
   newest-seq = rw (recorded-seqs table seqs secs seq ts t h, recorded-count table seqs secs seq ts t h) (last-new 0 (table .count) seqs (seq .0) (table .capacity) half (count-seqs table seqs secs ok) few even)
 
-  pub newest-sec : getD (kept t (after (gave (recorded t)) table secs (ts .0))) (t .count - 1) (pos 0) ≡ ts .0
+  pub newest-sec : getD (kept t (offeredTo (whole table seqs secs) seq ts (gave (recorded t)) .secs)) (t .count - 1) (pos 0) ≡ ts .0
   newest-sec = rw (recorded-secs table seqs secs seq ts t h, recorded-count table seqs secs seq ts t h) (last-new (pos 0) (table .count) secs (ts .0) (table .capacity) half (count-secs table seqs secs ok) few even)

@@ -27,8 +27,9 @@ use Rattle.tracker.specs.declared.LastRecorded.the-variants.{Never, At}
 use Rattle.order.proofs.Bools.{other, true-false, below-or, not-given, passed}
 use Rattle.tracker.proofs.Good.{Fine, fine, fine-again, room-is, count-seqs, count-secs}
 use Rattle.order.proofs.Order.{nat-order, int-order, further}
+use Rattle.offers.specs.Whole.{whole, checkIn}
 use Rattle.offers.specs.Keep.{keptWith, countWith}
-use Rattle.offers.specs.Offer.{Outcome, recorded, skipped, tooSoon, lowSeq, stateWith, offerOf, after, stateAfter}
+use Rattle.offers.specs.Offer.{Outcome, recorded, skipped, tooSoon, lowSeq, stateWith, offerTo, offeredTo}
 use Rattle.offers.proofs.Thinned.{appended-old, appended-new, thinned-length}
 use Rattle.offers.proofs.Rise.{over-length, selected, kept-sorted, kept-below}
 
@@ -67,7 +68,7 @@ module _ (table : SequenceTracker) (seqs : List ℕ) (secs : List ℤ) (seq : Se
     pub rising : lowSeq seqs (table .count) (seq .0) ≡ false
     pub state : stateWith table (length (keptWith table seqs (seq .0))) ts ≡ t
 
-  pub taken : (t : SequenceTracker) → offerOf table seqs secs seq ts ≡ gave (recorded t) → Taken t
+  pub taken : (t : SequenceTracker) → offerTo (whole table seqs secs) seq ts ≡ gave (recorded t) → Taken t
   taken t h = go (checkOf table seqs secs) refl h
     where
       not-skipped : (b : Bool) (next : Told Outcome) → cond b (gave skipped) next ≡ gave (recorded t) → (b ≡ false) × (next ≡ gave (recorded t))
@@ -163,34 +164,34 @@ module _ (table : SequenceTracker) (seqs : List ℕ) (secs : List ℤ) (seq : Se
         rw (← e) (fine-again (stateWith table m ts) (over (keptWith table seqs (seq .0)) seqs) (over (keptWith table secs (ts .0)) secs) still-fine)
 
   -- the law: with a pair recorded the table is good
-  pub recorded-good : (t : SequenceTracker) → offerOf table seqs secs seq ts ≡ gave (recorded t)
-      → checkOf t (after (gave (recorded t)) table seqs (seq .0)) (after (gave (recorded t)) table secs (ts .0)) ≡ gave tt
+  pub recorded-good : (t : SequenceTracker) → offerTo (whole table seqs secs) seq ts ≡ gave (recorded t)
+      → checkIn (offeredTo (whole table seqs secs) seq ts (gave (recorded t))) ≡ gave tt
   recorded-good t h = taken-good t (taken t h)
 
   count-is : (t : SequenceTracker) → Taken t → length (keptWith table seqs (seq .0)) ≡ t .count
   count-is t k = ap (λ (s : SequenceTracker). s .count) (k .state)
 
   -- it keeps of both arrays what the rule says
-  pub recorded-seqs : (t : SequenceTracker) → offerOf table seqs secs seq ts ≡ gave (recorded t) → kept t (after (gave (recorded t)) table seqs (seq .0)) ≡ keptWith table seqs (seq .0)
+  pub recorded-seqs : (t : SequenceTracker) → offerTo (whole table seqs secs) seq ts ≡ gave (recorded t) → kept t (offeredTo (whole table seqs secs) seq ts (gave (recorded t)) .seqs) ≡ keptWith table seqs (seq .0)
   recorded-seqs t h = take-at (keptWith table seqs (seq .0)) _ (t .count) (count-is t (taken t h))
 
-  pub recorded-secs : (t : SequenceTracker) → offerOf table seqs secs seq ts ≡ gave (recorded t) → kept t (after (gave (recorded t)) table secs (ts .0)) ≡ keptWith table secs (ts .0)
+  pub recorded-secs : (t : SequenceTracker) → offerTo (whole table seqs secs) seq ts ≡ gave (recorded t) → kept t (offeredTo (whole table seqs secs) seq ts (gave (recorded t)) .secs) ≡ keptWith table secs (ts .0)
   recorded-secs t h = let k = taken t h in take-at (keptWith table secs (ts .0)) _ (t .count) (secs-kept t k ∙ sym (seqs-kept t k) ∙ count-is t k)
 
   -- and its count is this
-  pub recorded-count : (t : SequenceTracker) → offerOf table seqs secs seq ts ≡ gave (recorded t) → t .count ≡ countWith (table .capacity) (table .count)
+  pub recorded-count : (t : SequenceTracker) → offerTo (whole table seqs secs) seq ts ≡ gave (recorded t) → t .count ≡ countWith (table .capacity) (table .count)
   recorded-count t h = let k = taken t h in sym (count-is t k) ∙ seqs-kept t k
 
   -- whatever an offer to a good table tells, the table is good afterwards
-  pub stays-good : (o : Told Outcome) → offerOf table seqs secs seq ts ≡ o → checkOf table seqs secs ≡ gave tt
-      → checkOf (stateAfter o table) (after o table seqs (seq .0)) (after o table secs (ts .0)) ≡ gave tt
+  pub stays-good : (o : Told Outcome) → offerTo (whole table seqs secs) seq ts ≡ o → checkOf table seqs secs ≡ gave tt
+      → checkIn (offeredTo (whole table seqs secs) seq ts o) ≡ gave tt
   stays-good (gave (recorded t)) h g = recorded-good t h
   stays-good (gave skipped) h g = g
   stays-good (refused what) h g = g
 
   -- and the arrays have kept their lengths
-  pub same-lengths : (o : Told Outcome) → offerOf table seqs secs seq ts ≡ o
-      → (length (after o table seqs (seq .0)) ≡ length seqs) × (length (after o table secs (ts .0)) ≡ length secs)
+  pub same-lengths : (o : Told Outcome) → offerTo (whole table seqs secs) seq ts ≡ o
+      → (length (offeredTo (whole table seqs secs) seq ts o .seqs) ≡ length seqs) × (length (offeredTo (whole table seqs secs) seq ts o .secs) ≡ length secs)
   same-lengths (gave (recorded t)) h = (seqs-length t (taken t h), secs-length t (taken t h))
   same-lengths (gave skipped) h = (refl, refl)
   same-lengths (refused what) h = (refl, refl)

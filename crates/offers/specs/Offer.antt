@@ -1,4 +1,4 @@
--- An offer: what it tells, and what the two arrays hold afterwards.
+-- An offer: what it tells, and the table after it.
 use Prim.Native.Nat.{ℕ, _-_}
 use mathlib.Core.Bool.{Bool, false, not, cond, _&&_}
 use mathlib.Core.List.{List, [], _∷_}
@@ -10,14 +10,13 @@ use Rattle.told.specs.Told.{Told, gave, refused, ifGood}
 use Rattle.told.specs.Over.{over}
 use Rattle.limits.specs.Domain.{outside}
 use Rattle.tracker.specs.Refusal.{told}
-use Rattle.tracker.specs.Table.{checkOf}
 use Rattle.tracker.specs.declared.Seq.{Seq}
 use Rattle.tracker.specs.declared.Second.{Second}
 use Rattle.tracker.specs.declared.SequenceTracker.{SequenceTracker}
 use Rattle.tracker.specs.declared.LastRecorded.{LastRecorded}
 use Rattle.tracker.specs.declared.LastRecorded.the-variants.{Never, At}
 use Rattle.offers.specs.Keep.{keptWith}
-use Rattle.offers.specs.Whole.{Table, whole, Left, leaving}
+use Rattle.offers.specs.Whole.{Table, whole, checkIn, Left, leaving}
 use Rattle.offers.specs.declared.Offered.{Offered}
 use Rattle.offers.specs.declared.Offered.the-variants.{Recorded, Skipped, Refused}
 
@@ -45,35 +44,21 @@ lowSeq seqs n q = not (eqb n 0) && ltb q (getD seqs (n - 1) 0)
 abbrev pub stateWith : SequenceTracker → ℕ → Second → SequenceTracker
 stateWith table count ts = record { count = count; capacity = table .capacity; «interval_secs» = table .«interval_secs»; «last_recorded_ts» = At ts }
 
--- 14, 11, 12, 13; then 16, the skip, 17; else the pair is recorded
-abbrev pub offerOf : SequenceTracker → List ℕ → List ℤ → Seq → Second → Told Outcome
-offerOf table seqs secs seq ts =
-    ifGood (checkOf table seqs secs)
-    (cond (outside (ts .0)) (refused (16 ∷ []))
-    (cond (tooSoon (table .«last_recorded_ts») (table .«interval_secs») (ts .0)) (gave skipped)
-    (cond (lowSeq seqs (table .count) (seq .0)) (refused (17 ∷ []))
-    (gave (recorded (stateWith table (length (keptWith table seqs (seq .0))) ts))))))
-
--- what an array holds after what is told: with x recorded, what the table keeps, and past it what stood there; else what it held
-abbrev pub after : {A : Type 0} → Told Outcome → SequenceTracker → List A → A → List A
-after (gave (recorded t)) table xs x = over (keptWith table xs x) xs
-after (gave skipped) table xs x = xs
-after (refused what) table xs x = xs
-
--- the table's state after what is told: the new one, or as it was
-abbrev pub stateAfter : Told Outcome → SequenceTracker → SequenceTracker
-stateAfter (gave (recorded t)) table = t
-stateAfter (gave skipped) table = table
-stateAfter (refused what) table = table
-
--- what `offer` tells of a table whole
+-- what `offer` tells: 14, 11, 12, 13; then 16, the skip, 17; else the pair is recorded
 abbrev pub offerTo : Table → Seq → Second → Told Outcome
-offerTo w seq ts = offerOf (w .state) (w .seqs) (w .secs) seq ts
+offerTo w seq ts =
+    ifGood (checkIn w)
+    (cond (outside (ts .0)) (refused (16 ∷ []))
+    (cond (tooSoon (w .state .«last_recorded_ts») (w .state .«interval_secs») (ts .0)) (gave skipped)
+    (cond (lowSeq (w .seqs) (w .state .count) (seq .0)) (refused (17 ∷ []))
+    (gave (recorded (stateWith (w .state) (length (keptWith (w .state) (w .seqs) (seq .0))) ts))))))
 
--- the table after an offer that tells this; skipped or refused, it is as it was
+-- the table after an offer that tells this: recorded, each array holds what is kept, and past it what stood there; else it is as it was
 abbrev pub offeredTo : Table → Seq → Second → Told Outcome → Table
-offeredTo w seq ts told =
-    whole (stateAfter told (w .state)) (after told (w .state) (w .seqs) (seq .0)) (after told (w .state) (w .secs) (ts .0))
+offeredTo w seq ts (gave (recorded t)) =
+    whole t (over (keptWith (w .state) (w .seqs) (seq .0)) (w .seqs)) (over (keptWith (w .state) (w .secs) (ts .0)) (w .secs))
+offeredTo w seq ts (gave skipped) = w
+offeredTo w seq ts (refused what) = w
 
 -- an offer: what it tells and leaves
 abbrev pub offering : Table → Seq → Second → Left (Told Outcome)

@@ -20,16 +20,14 @@ whole state seqs secs = record { state = state; seqs = seqs; secs = secs }
 abbrev pub checkIn : Table → Told (Unit {0})
 checkIn w = checkOf (w .state) (w .seqs) (w .secs)
 
--- what a call answers, and what the two arrays hold afterwards
+-- what a call answers, and the table afterwards
 pub record Left (A : Type 0) : Type 0 where
   pub answer : A
-  pub seqs : List ℕ
-  pub secs : List ℤ
+  pub table : Table
 
--- an answer, and the arrays as they stand in a table
 abbrev pub leaving : {A : Type 0} → A → Table → Left A
-leaving answer w = record { answer = answer; seqs = w .seqs; secs = w .secs }
+leaving answer w = record { answer = answer; table = w }
 
 -- the call answered so, and left the arrays so
 abbrev pub Leaves : {A : Type 0} → Left A → A → List ℕ → List ℤ → Type 0
-Leaves left answer seqs secs = (answer ≡ left .answer) × (seqs ≡ left .seqs) × (secs ≡ left .secs)
+Leaves left answer seqs secs = (answer ≡ left .answer) × (seqs ≡ left .table .seqs) × (secs ≡ left .table .secs)

@@ -39,7 +39,7 @@ Restores bytes seqs secs r seqs′ secs′ =
 
 -- a call on a table, as it crosses: `of` makes the answer of what is told
 abbrev pub Crosses : {A : Type 0} → (A → TableAnswer) → Left A → TableAnswer → List ℕ → List ℤ → Type 0
-Crosses of left r seqs secs = Leaves (record { answer = of (left .answer); seqs = left .seqs; secs = left .secs }) r seqs secs
+Crosses of left r seqs secs = Leaves (record { answer = of (left .answer); table = left .table }) r seqs secs
 
 abbrev pub tableIn : State → List ℕ → List ℤ → Table
 tableIn s seqs secs = whole (tableOf s) seqs secs

@@ -35,16 +35,15 @@ roundOf n = cond (eqb n 0) RoundUp RoundDown
 
 -- ---- out
 
-abbrev pub markOf : LastRecorded → ℕ
-markOf Never = 0
-markOf (At s) = 1
-
-abbrev pub secondOf : LastRecorded → ℤ
-secondOf Never = pos 0
-secondOf (At s) = s .0
+-- the mark, and the second or 0
+abbrev pub lastOut : LastRecorded → ℕ × ℤ
+lastOut Never = (0, pos 0)
+lastOut (At s) = (1, s .0)
 
 abbrev pub stateOf : SequenceTracker → State
-stateOf t = record { count = t .count; capacity = t .capacity; «has_last» = markOf (t .«last_recorded_ts»); «interval_secs» = t .«interval_secs»; last = secondOf (t .«last_recorded_ts») }
+stateOf t =
+    let last = lastOut (t .«last_recorded_ts») in
+    record { count = t .count; capacity = t .capacity; «has_last» = last .0; «interval_secs» = t .«interval_secs»; last = last .1 }
 
 -- where no state is returned, one that every call refuses
 abbrev pub noState : State

@@ -12,7 +12,7 @@ use Rattle.tracker.specs.Table.{checkOf}
 use Rattle.tracker.specs.declared.LastRecorded.{LastRecorded}
 use Rattle.tracker.specs.declared.LastRecorded.the-variants.{Never, At}
 use Rattle.tracker.specs.declared.SequenceTracker.{SequenceTracker}
-use Rattle.states.specs.State.{noCapacity, tableOf, stateOf, lastIn, markOf, secondOf}
+use Rattle.states.specs.State.{noCapacity, tableOf, stateOf, lastIn, lastOut}
 use Rattle.states.specs.declared.State.{State}
 use Rattle.table_answers.specs.Crossing.{Unusable, Crossing}
 
@@ -41,10 +41,10 @@ crossing = record {
   neither = λ s h. unusable (tableOf s) (λ seqs secs. rw (lt-ltb 1 (s .«has_last») h) (no-capacity (s .count) (s .«interval_secs») (lastIn (s .«has_last») (s .last)) seqs secs));
 }
   where
-    last-back : (l : LastRecorded) → lastIn (markOf l) (secondOf l) ≡ l
+    last-back : (l : LastRecorded) → lastIn (lastOut l .0) (lastOut l .1) ≡ l
     last-back Never = refl
     last-back (At s) = refl
 
-    marked : (l : LastRecorded) → ltb 1 (markOf l) ≡ false
+    marked : (l : LastRecorded) → ltb 1 (lastOut l .0) ≡ false
     marked Never = refl
     marked (At s) = refl

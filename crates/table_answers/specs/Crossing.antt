@@ -12,7 +12,6 @@ use Rattle.lookup.specs.Find.{findTs, findSeq}
 use Rattle.lookup.specs.declared.FindOption.{FindOption}
 use Rattle.offers.specs.Whole.{Table, whole, checkIn}
 use Rattle.offers.specs.Offer.{offerTo}
-use Rattle.log.specs.Log.{ownTable, otherTable}
 use Rattle.log.specs.Pairs.{pairsLogOf, extendOf}
 use Rattle.saving.specs.Save.{saveOf, saveStrictOf}
 use Rattle.states.specs.State.{tableOf, stateOf, noState}
@@ -23,8 +22,8 @@ pub record Unusable (t : SequenceTracker) : Type 0 where
   pub check : (seqs : List ℕ) (secs : List ℤ) → checkIn (whole t seqs secs) ≡ refused (14 ∷ [])
   pub offer : (seqs : List ℕ) (secs : List ℤ) (seq : Seq) (ts : Second) → offerTo (whole t seqs secs) seq ts ≡ refused (14 ∷ [])
   pub pairs : (seqs : List ℕ) (secs : List ℤ) (xs : List ℕ) (zs : List ℤ) → length xs ≡ length zs → pairsLogOf (whole t seqs secs) xs zs .answer ≡ refused (14 ∷ [])
-  pub own : (seqs : List ℕ) (secs : List ℤ) (other : Table) → extendOf (whole t seqs secs) other .answer ≡ refused (14 ∷ ownTable ∷ [])
-  pub other : (w : Table) (seqs : List ℕ) (secs : List ℤ) → checkIn w ≡ gave tt → extendOf w (whole t seqs secs) .answer ≡ refused (14 ∷ otherTable ∷ [])
+  pub own : (seqs : List ℕ) (secs : List ℤ) (other : Table) → extendOf (whole t seqs secs) other .answer ≡ refused (14 ∷ 0 ∷ [])
+  pub other : (w : Table) (seqs : List ℕ) (secs : List ℤ) → checkIn w ≡ gave tt → extendOf w (whole t seqs secs) .answer ≡ refused (14 ∷ 1 ∷ [])
   pub by-seq : (seqs : List ℕ) (secs : List ℤ) (x : Seq) (opt : FindOption) → findTs t seqs secs x opt ≡ refused (14 ∷ [])
   pub by-second : (seqs : List ℕ) (secs : List ℤ) (x : Second) (opt : FindOption) → findSeq t seqs secs x opt ≡ refused (14 ∷ [])
   pub save : (seqs : List ℕ) (secs : List ℤ) (room : ℕ) → saveOf t seqs secs room ≡ refused (14 ∷ [])

@@ -2,13 +2,13 @@
 ghost use mathlib.Core.Path.{_≡_};
 ghost use mathlib.Core.List.{[], _∷_, _++_};
 ghost use Rattle.tracker.specs.Refusal as table;
-ghost use Rattle.answers.specs.Answer.{refusedBy};
+ghost use Rattle.answers.specs.Answer.{answerOf};
 use answers::Answer;
 use answers::inner::answer;
 
 // With what is told after the refusal: a position, or which table it was.
 pub fn of_table_and(why: tracker::Refusal, last: u64) -> Answer
-    ensures { λ r. ⌜ r ≡ refusedBy (table.told why ++ (last ∷ [])) ⌝ }
+    ensures { λ r. ⌜ r ≡ answerOf (table.told why ++ (last ∷ [])) ⌝ }
 {
     match why {
         tracker::Refusal::Disagrees => answer(14, last, 0, 0),

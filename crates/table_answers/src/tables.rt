@@ -1,9 +1,9 @@
 // The answers that hold a table's state, and that hold none.
 ghost use mathlib.Core.Path.{_≡_};
-ghost use Rattle.answers.specs.Answer.{given};
+ghost use mathlib.Core.List.{[], _∷_};
 ghost use Rattle.log.specs.Log.{noneYet};
-ghost use Rattle.states.specs.State.{noState};
-ghost use Rattle.table_answers.specs.Table.{withTable};
+ghost use Rattle.states.specs.State.{stateOf, noState};
+ghost use Rattle.table_answers.specs.Table.{tableAnswerOf};
 use crate::TableAnswer;
 use answers::Answer;
 use answers::inner::answer;
@@ -12,7 +12,7 @@ use tracker::SequenceTracker;
 
 // With a table's state and the numbers recorded and skipped.
 pub fn with_table(answer: Answer, table: SequenceTracker, tally: Tally) -> TableAnswer
-    ensures { λ r. ⌜ r ≡ withTable answer table tally ⌝ }
+    ensures { λ r. ⌜ r ≡ record { answer = answer; recorded = tally .recorded; skipped = tally .skipped; state = stateOf table } ⌝ }
 {
     let state = states::state_of(table);
     TableAnswer {
@@ -25,7 +25,7 @@ pub fn with_table(answer: Answer, table: SequenceTracker, tally: Tally) -> Table
 
 // Not refused, and no offers made.
 pub fn fresh(table: SequenceTracker) -> TableAnswer
-    ensures { λ r. ⌜ r ≡ withTable (given 0 0 0) table noneYet ⌝ }
+    ensures { λ r. ⌜ r ≡ tableAnswerOf (0 ∷ []) noneYet (stateOf table) ⌝ }
 {
     with_table(
         answer(0, 0, 0, 0),

@@ -12,46 +12,50 @@ use Rattle.tracker.specs.declared.SequenceTracker.{SequenceTracker}
 use Rattle.offers.specs.Whole.{Table, checkIn, Left, leaving}
 use Rattle.offers.specs.Offer.{Outcome}
 use Rattle.log.specs.declared.Tally.{Tally}
-use Rattle.log.specs.Log.{Log, done, stopped, noneYet, counted, tells, afterRecord, unlessRefused, unlessBad, runOf, logOf, ownTable, otherTable}
-use Rattle.log.specs.Pairs.{recordsOf, pairsLogOf, ofTable, extendOf}
+use Rattle.log.specs.Log.{Log, done, stopped, noneYet, counted, unless, runOf, logOf}
+use Rattle.log.specs.Pairs.{recordsOf, pairsLogOf, extendOf}
+use Rattle.log.specs.Inner.{tells, afterRecord, stoppedAt}
 use Rattle.theorems.specs.Run.{keptIn, SameLog}
 use Rattle.theorems.proofs.Sound.{Same, offered-told, offered-same}
 
 pub same-kept : (w v : Table) → Same w v → keptIn w ≡ keptIn v
 same-kept w v M = rw (← M .state) (λ i. record { seqs = M .alike .same-seqs i; secs = M .alike .same-secs i })
 
-run-same : (w₀ v₀ w v : Table) (n : Tally) (i : ℕ) (rs : List TrackedSeq) → Same w v → SameLog w₀ (runOf w n i rs) v₀ (runOf v n i rs)
+run-same : (w v : Table) (n : Tally) (i : ℕ) (rs : List TrackedSeq) → Same w v → SameLog (runOf w n i rs) (runOf v n i rs)
 unfolding runOf
-run-same w₀ v₀ w v n i [] M = (ap (λ (s : SequenceTracker). gave (done s n)) (M .state), same-kept w v M)
-run-same w₀ v₀ w v n i (r ∷ rs) M =
+run-same w v n i [] M = (ap (λ (s : SequenceTracker). gave (done s n)) (M .state), same-kept w v M)
+run-same w v n i (r ∷ rs) M =
     let e = offered-told w v M (r .seq) (r .ts) in
-    let more = run-same w₀ v₀ (afterRecord w r) (afterRecord v r) (counted (tells w r) n) (i + 1) rs (offered-same w v M (r .seq) (r .ts)) in
-    subst (λ (o : Told Outcome). SameLog w₀ (unlessRefused (tells w r) i w n (runOf (afterRecord w r) (counted (tells w r) n) (i + 1) rs)) v₀ (unlessRefused o i v n (runOf (afterRecord v r) (counted o n) (i + 1) rs))) e
+    let more = run-same (afterRecord w r) (afterRecord v r) (counted (tells w r) n) (i + 1) rs (offered-same w v M (r .seq) (r .ts)) in
+    subst (λ (o : Told Outcome). SameLog (unless (tells w r) (stoppedAt w n i) (runOf (afterRecord w r) (counted (tells w r) n) (i + 1) rs)) (unless o (stoppedAt v n i) (runOf (afterRecord v r) (counted o n) (i + 1) rs))) e
     (go (tells w r) (runOf (afterRecord w r) (counted (tells w r) n) (i + 1) rs) (runOf (afterRecord v r) (counted (tells w r) n) (i + 1) rs) more)
   where
-    go : (o : Told Outcome) (l m : Left (Told Log)) → SameLog w₀ l v₀ m → SameLog w₀ (unlessRefused o i w n l) v₀ (unlessRefused o i v n m)
+    go : (o : Told Outcome) (l m : Left (Told Log)) → SameLog l m → SameLog (unless o (stoppedAt w n i) l) (unless o (stoppedAt v n i) m)
     go (gave x) l m h = h
     go (refused what) l m h = (ap (λ (s : SequenceTracker). gave (stopped (what ++ (i ∷ [])) s n)) (M .state), same-kept w v M)
 
 module _ (w v : Table) (g : checkIn w ≡ gave tt) (g′ : checkIn v ≡ gave tt) (M : Same w v) where
-  pub log-same : (rs : List TrackedSeq) → SameLog w (logOf w rs) v (logOf v rs)
-  log-same rs = rw (g, g′) (run-same w v w v noneYet 0 rs M)
+  pub log-same : (rs : List TrackedSeq) → SameLog (logOf w rs) (logOf v rs)
+  log-same rs = rw (g, g′) (run-same w v noneYet 0 rs M)
 
-  pub pairs-same : (qs : List ℕ) (ss : List ℤ) → SameLog w (pairsLogOf w qs ss) v (pairsLogOf v qs ss)
+  pub pairs-same : (qs : List ℕ) (ss : List ℤ) → SameLog (pairsLogOf w qs ss) (pairsLogOf v qs ss)
   pairs-same qs ss = go (eqb (length qs) (length ss))
     where
-      go : (b : Bool) → SameLog w (cond b (logOf w (recordsOf qs ss)) (leaving (refused (18 ∷ [])) w)) v (cond b (logOf v (recordsOf qs ss)) (leaving (refused (18 ∷ [])) v))
+      go : (b : Bool) → SameLog (cond b (logOf w (recordsOf qs ss)) (leaving (refused (18 ∷ [])) w)) (cond b (logOf v (recordsOf qs ss)) (leaving (refused (18 ∷ [])) v))
       go true = log-same (recordsOf qs ss)
       go false = (refl, same-kept w v M)
 
-  pub extend-same : (other : Table) → SameLog w (extendOf w other) v (extendOf v other)
-  extend-same other = rw (g, g′) (go (ofTable otherTable (checkIn other)))
+  pub extend-same : (other : Table) → SameLog (extendOf w other) (extendOf v other)
+  extend-same other = rw (g, g′) (go (checkIn other))
     where
       rs : List TrackedSeq
       rs = recordsOf (keptIn other .seqs) (keptIn other .secs)
 
-      go : (o : Told (Unit {0})) → SameLog w (unlessBad o w (runOf w noneYet 0 rs)) v (unlessBad o v (runOf v noneYet 0 rs))
-      go (gave x) = run-same w v w v noneYet 0 rs M
+      bad : Table → List ℕ → Left (Told Log)
+      bad w what = leaving (refused (what ++ (1 ∷ []))) w
+
+      go : (o : Told (Unit {0})) → SameLog (unless o (bad w) (runOf w noneYet 0 rs)) (unless o (bad v) (runOf v noneYet 0 rs))
+      go (gave x) = run-same w v noneYet 0 rs M
       go (refused what) = (refl, same-kept w v M)
 
   pub extend-by-same : (other : Table) → extendOf other w ≡ extendOf other v

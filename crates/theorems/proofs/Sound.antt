@@ -19,7 +19,7 @@ use Rattle.offers.proofs.Preserved.{taken, stays-good, recorded-count}
 use Rattle.offers.proofs.Alike.{Alike, alike-told, alike-after}
 use Rattle.offers.proofs.Newest.{newest-sec}
 use Rattle.settling.specs.Settle.{lastOf}
-use Rattle.offers.specs.Whole.{Table}
+use Rattle.offers.specs.Whole.{Table, whole}
 use Rattle.theorems.specs.Run.{new, keptIn, Lent}
 use Rattle.theorems.proofs.Kept.{kept-all, some-kept}
 
@@ -73,7 +73,12 @@ module _ (w v : Table) (M : Same w v) (seq : Seq) (ts : Second) where
   offered-told = rw (← M .state) (alike-told (w .state) (w .seqs) (v .seqs) (w .secs) (v .secs) seq ts (M .alike))
 
   pub offered-same : Same (offeredTo w seq ts (offerTo w seq ts)) (offeredTo v seq ts (offerTo v seq ts))
-  offered-same = rw (← offered-told, ← M .state) (record { state = refl; alike = alike-after (w .state) (w .seqs) (v .seqs) (w .secs) (v .secs) seq ts (M .alike) (offerTo w seq ts) refl })
+  offered-same = rw (← offered-told, ← M .state) (record { state = go (offerTo w seq ts); alike = alike-after (w .state) (w .seqs) (v .seqs) (w .secs) (v .secs) seq ts (M .alike) (offerTo w seq ts) refl })
+    where
+      go : (o : Told Outcome) → offeredTo w seq ts o .state ≡ offeredTo (whole (w .state) (v .seqs) (v .secs)) seq ts o .state
+      go (gave (recorded t)) = refl
+      go (gave skipped) = refl
+      go (refused what) = refl
 
 -- a new table
 pub new-sound : (seqs : List ℕ) (secs : List ℤ) → Lent seqs secs → Sound (new seqs secs)

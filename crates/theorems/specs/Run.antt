@@ -20,7 +20,7 @@ use Rattle.lookup.specs.Find.{findTs, findSeq}
 use Rattle.lookup.specs.declared.FindOption.{FindOption}
 use Rattle.offers.specs.Whole.{Table, whole, checkIn, Left}
 use Rattle.offers.specs.Offer.{Outcome, offerTo, offeredTo}
-use Rattle.log.specs.Log.{Log, done, stopped, logOf}
+use Rattle.log.specs.Log.{Log, logOf}
 use Rattle.log.specs.Pairs.{pairsLogOf, extendOf}
 use Rattle.decoder.specs.Decode.{listed}
 use Rattle.saving.specs.Save.{saveStrictOf, saveOf, keptImage}
@@ -117,18 +117,9 @@ Proper (reloaded l ∷ es) = Lent (l .seqs) (l .secs) × Proper es
 
 -- ---- a list of offers
 
--- the table after a list of offers that left this; refused before the first record, the state is as it was
-abbrev pub stateIn : Told Log → SequenceTracker → SequenceTracker
-stateIn (gave (done t n)) state = t
-stateIn (gave (stopped what t n)) state = t
-stateIn (refused what) state = state
-
-abbrev pub loggedTo : Table → Left (Told Log) → Table
-loggedTo w l = whole (stateIn (l .answer) (w .state)) (l .seqs) (l .secs)
-
 -- two tables are told the same, and keep the same pairs afterwards
-abbrev pub SameLog : Table → Left (Told Log) → Table → Left (Told Log) → Type 0
-SameLog w l v m = (l .answer ≡ m .answer) × (keptIn (loggedTo w l) ≡ keptIn (loggedTo v m))
+abbrev pub SameLog : Left (Told Log) → Left (Told Log) → Type 0
+SameLog l m = (l .answer ≡ m .answer) × (keptIn (l .table) ≡ keptIn (m .table))
 
 -- ---- when a strict save is refused
 
@@ -150,9 +141,9 @@ pub record Unharmed (w v : Table) : Type 0 where
   pub pairs : keptIn w ≡ keptIn v
   pub state : w .state ≡ v .state
   -- each list of offers, as records and as two lists; each other table's pairs, and each other table that takes the pairs of this one
-  pub by-log : (rs : List TrackedSeq) → SameLog w (logOf w rs) v (logOf v rs)
-  pub by-pairs : (qs : List ℕ) (ss : List ℤ) → SameLog w (pairsLogOf w qs ss) v (pairsLogOf v qs ss)
-  pub by-other : (other : Table) → SameLog w (extendOf w other) v (extendOf v other)
+  pub by-log : (rs : List TrackedSeq) → SameLog (logOf w rs) (logOf v rs)
+  pub by-pairs : (qs : List ℕ) (ss : List ℤ) → SameLog (pairsLogOf w qs ss) (pairsLogOf v qs ss)
+  pub by-other : (other : Table) → SameLog (extendOf w other) (extendOf v other)
   pub as-other : (other : Table) → extendOf other w ≡ extendOf other v
   -- each lookup
   pub by-seq : (x : Seq) (opt : FindOption) → findTs (w .state) (w .seqs) (w .secs) x opt ≡ findTs (v .state) (v .seqs) (v .secs) x opt

@@ -49,16 +49,16 @@ use denote.Triple.Spec.{Meets, tripleOf}
 use denote.Triple.Table.{entered, cited}
 use denote.Triple.Walked.{Stays, stay-slice, stay-dropped, walkOf, goes-slice, goes-dropped, Walks, ends-at, walked, walk-meets, says}
 use denote.Exit.{yes}
-use Rattle.told.specs.Told.{Told, gave}
+use Rattle.told.specs.Told.{gave}
 use Rattle.tracker.specs.Table.{checkOf}
 use Rattle.tracker.specs.declared.TrackedSeq.{TrackedSeq}
 use Rattle.tracker.specs.declared.SequenceTracker.{SequenceTracker}
-use Rattle.offers.specs.Whole.{whole, Left}
-use Rattle.log.specs.Log.{Log, toldLog, logOf}
+use Rattle.offers.specs.Whole.{whole, Leaves}
+use Rattle.log.specs.Log.{toldLog, logOf}
 use Rattle.log.specs.Inner.{total, toldProgress, Begins, Steps}
 use Rattle.log.specs.declared.Logged.{Logged}
 use Rattle.log.specs.declared.inner.Progress.{Progress}
-use Rattle.log.proofs.Run.{noRecord, Upto, begun, live, in-list, next, over}
+use Rattle.log.proofs.Run.{noRecord, Upto, begun, live, in-list, next, ended}
 use Rattle.log_records.proofs.Both.{OwnX, OwnZ, calls-both}
 use Rattle.log_records.proofs.Calls.{lowR, lowP, lowS, Bgn, Stp, begin-callee, step-callee}
 use Rattle.tracker.proofs.TrackedSeq as T
@@ -158,12 +158,12 @@ module _ {M : Type 1} (𝓤 : URA M) (H : Heap 𝓤) (A : Atoms 𝓤) (W : Given
   abbrev Own : Fml
   Own = ShrSlice (named 2) κ₂ T.the-row .own s (v ∷ [])
 
-  exits : (r : Logged) (u : Val) (xs : List ℕ) (zs : List ℤ) → length xs ≡ length xs₀ → length zs ≡ length zs₀ → logOf (whole st xs₀ zs₀) ys ≡ record { answer = toldLog r; seqs = xs; secs = zs }
+  exits : (r : Logged) (u : Val) (xs : List ℕ) (zs : List ℤ) → length xs ≡ length xs₀ → length zs ≡ length zs₀ → Leaves (logOf (whole st xs₀ zs₀) ys) (toldLog r) xs zs
       → ent 𝓤 (⋆ 𝓤 H A (‵ (E.the-row .own r (u ∷ [])) ∷ ‵ (Seqs xs) ∷ ‵ (Secs zs) ∷ ‵ (flft κ₀ q₀) ∷ ‵ (flft κ₁ q₁) ∷ ‵ (flft κ₂ q₂) ∷ ‵ Own ∷ [])) (Post u)
   exits r u xs zs lX lZ e =
       qed W (‵ (E.the-row .own r (u ∷ [])) ∷ ‵ (Seqs xs) ∷ ‵ (Secs zs) ∷ ‵ (flft κ₀ q₀) ∷ ‵ (flft κ₁ q₁) ∷ ‵ (flft κ₂ q₂) ∷ ‵ Own ∷ []) ∵
       suffices ! _ (ends-at 𝓤 H A offer-all.ended stayed (offer-all.clauses 𝓤 H A mem run) W y u r (tt, (xs, (zs, (tt, tt)))) (tt, (lX, (lZ, (tt, tt))))) $
-      says ! (sym (ap (λ (x : Left (Told Log)). x .answer) e), sym (ap (λ (x : Left (Told Log)). x .seqs) e), sym (ap (λ (x : Left (Told Log)). x .secs) e)) $
+      says ! e $
       nothing ! $ move ! (6 ∷ 0 ∷ []) $ join ! $ move ! (5 ∷ 0 ∷ []) $ join ! $ move ! (4 ∷ 0 ∷ []) $ join ! $ frame ! $
       -- [the result; seqs; secs; records]
       rewrite ! 1 (λ (m : ℕ). ‵ (MutSlice (named 0) κ₀ u64 .own (record { ptr = (b₀, o₀); name = γ₀; now = xs }) (sliceVal (b₀, o₀) m ∷ []))) lX refl $
@@ -310,7 +310,7 @@ module _ {M : Type 1} (𝓤 : URA M) (H : Heap 𝓤) (A : Atoms 𝓤) (W : Given
         land ! (from ! (stop !)) (init ! 45 refl (EL.lawful E.the-type E′.the-laws 𝓤 H A W tt .typed r _ is .0)) $
         returns ! (look ! 45 refl) $ forget ! 21 refl $ forget ! 33 refl $ forget ! 35 refl $ forget ! 37 refl $ forget ! 39 refl $ forget ! 41 refl $ forget ! 43 refl $ forget ! 45 refl $
         move ! (45 ∷ 46 ∷ []) $ free1 ! $ move ! (43 ∷ 44 ∷ []) $ free1 ! $ move ! (41 ∷ 42 ∷ []) $ free1 ! $ move ! (39 ∷ 40 ∷ []) $ free1 ! $ move ! (37 ∷ 38 ∷ []) $ free1 ! $ move ! (35 ∷ 36 ∷ []) $ free1 ! $ move ! (33 ∷ 34 ∷ []) $ free1 ! $ move ! (31 ∷ 32 ∷ []) $ free1 ! $ move ! (29 ∷ 30 ∷ []) $ free1 ! $ move ! (27 ∷ 28 ∷ []) $ free1 ! $ move ! (25 ∷ 26 ∷ []) $ free1 ! $ move ! (23 ∷ 24 ∷ []) $ free1 ! $ move ! (21 ∷ 22 ∷ []) $ free1 ! $ move ! (19 ∷ 20 ∷ []) $ free1 ! $ move ! (17 ∷ 18 ∷ []) $ free1 ! $ move ! (15 ∷ 16 ∷ []) $ free1 ! $ move ! (13 ∷ 14 ∷ []) $ free1 ! $ move ! (11 ∷ 12 ∷ []) $ free1 ! $ move ! (9 ∷ 10 ∷ []) $ free1 ! $ move ! (7 ∷ 8 ∷ []) $ free1 ! $ free0 ! $
-        by ! (exits r u (x .xs) (x .zs) (x .lX) (x .lZ) (over (x .upto) (nltb→le (x .i) (x .t .end) left) ∙ ap (λ (o : Told Log). record { answer = o; seqs = x .xs; secs = x .zs }) (sym e))))))))
+        by ! (exits r u (x .xs) (x .zs) (x .lX) (x .lZ) (ended (x .upto) (nltb→le (x .i) (x .t .end) left) e)))))))
 
     -- the loop and the rest of the body
     looped : (x : Turn) → Sq W (At x) (runs C Λ En mirs.t-8 (atRet En Post))

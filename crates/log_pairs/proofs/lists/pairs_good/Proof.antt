@@ -3,12 +3,10 @@ use mathlib.Core.Path.{_≡_, refl, sym, ap, _∙_}
 use Prim.Native.Nat.{_-_, _<_}
 use native.Mathlib.Omega.{arith}
 use lib.ListN.{length, take}
-use Rattle.told.specs.Told.{Told}
-use Rattle.offers.specs.Whole.{whole, Left}
-use Rattle.log.specs.Log.{Log}
+use Rattle.offers.specs.Whole.{whole}
 use Rattle.log.specs.Pairs.{recordsOf}
 use Rattle.log.specs.Inner.{frontOf}
-use Rattle.log.proofs.Run.{Upto, started-as, live, in-list, next, over}
+use Rattle.log.proofs.Run.{Upto, started-as, live, in-list, next, ended}
 use Rattle.log_pairs.proofs.Records.{front-length, front-at}
 use Rattle.log.specs.declared.inner.Progress.{Progress}
 use Rattle.log_pairs.proofs.lists.pairs_good.Statement.{statement}
@@ -62,8 +60,7 @@ returns : tie.Need-returns Inv-loop μ-loop
 returns c =
     let l = c .before .before .before in
     let table = ap (λ (p : Progress). p .table) (l .before .going .ensures) in
-    let e = over (l .loop .inv .0) (c .before .if1 .left) in
-    rw (← table) (c .finish .ensures ∙ sym (ap (λ (x : Left (Told Log)). x .answer) e), sym (ap (λ (x : Left (Told Log)). x .seqs) e), sym (ap (λ (x : Left (Told Log)). x .secs) e))
+    rw (← table) (ended (l .loop .inv .0) (c .before .if1 .left) (c .finish .ensures))
 
 pub pairs-good-spec : {M : Type 1} → statement M
 pairs-good-spec =
