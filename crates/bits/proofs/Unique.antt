@@ -1,7 +1,7 @@
 -- No second outcome fits: answers of which the same is told are the same. Assumes nothing.
 use Prim.Native.Nat.{ℕ}
 use mathlib.Core.Path.{_≡_, refl, sym, ap, _∙_}
-use mathlib.Core.List.{List, [], _∷_}
+use mathlib.Core.List.{List}
 use native.Mathlib.Omega.{arith}
 use Rattle.told.proofs.Unique.{given-not-refused, same-gift}
 use Rattle.bits.specs.Read.{Piece, toldRead, readRule}

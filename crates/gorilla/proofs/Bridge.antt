@@ -9,7 +9,7 @@ use Rattle.raw_bits.specs.Inner.{bitsAt}
 use Rattle.raw_bits.specs.BitList.{bitsOf, natFrom}
 use Rattle.raw_bits.proofs.Lists.{length-bitsOf}
 use Rattle.raw_bits.proofs.Written.{from-at}
-use Rattle.gorilla.specs.Parser.{Read, read, refused, takeOff}
+use Rattle.gorilla.specs.Parser.{read, refused, takeOff}
 
 -- n bits, where there are so many
 take-off : (l : List ℕ) (n v : ℕ) (bs : List ℕ) → n ≤ length bs → takeOff l n v bs ≡ read (natFrom v (take n bs)) (drop n bs)

@@ -2,7 +2,7 @@
 use Prim.Native.Nat.{ℕ, zero, suc, _+_}
 use mathlib.Core.Path.{_≡_, refl, sym, ap, _∙_}
 use mathlib.Core.Bool.{Bool, true, false}
-use mathlib.Core.List.{List, [], _∷_, map}
+use mathlib.Core.List.{List, [], _∷_}
 use native.Mathlib.Omega.{arith}
 use borrow.Author.Tests.{eqb-true}
 use lib.Dec.{eqb}
@@ -10,7 +10,7 @@ use lib.ListN.{length, length-map}
 use lib.IntN.{ℤ, pos}
 use Rattle.signed.specs.Signed.{signed, pattern}
 use Rattle.gorilla.specs.Parser.{Read, read, refused, Reader, andThen, require, takeBits}
-use Rattle.gorilla.specs.Reading.{readCode, readCodes, valuesAfter, readValues, readArray, leCount, readPart, Pairs, readPairs, readImage}
+use Rattle.gorilla.specs.Reading.{readCode, readCodes, readValues, readArray, leCount, readPart, Pairs, readPairs, readImage}
 use Rattle.gorilla.proofs.ImageTrip.{length-after}
 
 -- two readers, one after the other, that read: what the first read, and what the second made of it

@@ -8,12 +8,12 @@ use borrow.Author.Tests.{eqb-true}
 use lib.Dec.{eqb}
 use lib.ListN.{length, getD, take, drop, length-append, length-drop, take-append-drop}
 use lib.Seq.{drop-at, length-take-le}
-use lib.IntN.{ℤ, pos}
-use Rattle.signed.specs.Signed.{signed, pattern}
+use lib.IntN.{ℤ}
+use Rattle.signed.specs.Signed.{pattern}
 use Rattle.raw_bits.specs.BitList.{bitsOf}
-use Rattle.gorilla.specs.Rows.{widths, decoded}
+use Rattle.gorilla.specs.Rows.{widths}
 use Rattle.gorilla.specs.Parser.{Read, read, refused, Reader, andThen, _>>=_, give, require, takeOff, takeBits, align}
-use Rattle.gorilla.specs.Reading.{countOnes, readCode, readCodes, valuesAfter, readValues, readArray, leCount, readPart, Pairs, readPairs, readImage}
+use Rattle.gorilla.specs.Reading.{countOnes, readCode, readCodes, readValues, readArray, leCount, readPart, Pairs, readPairs}
 use Rattle.gorilla.specs.Ignored.{FollowingIgnored, Padded, PaddingIgnored}
 use Rattle.raw_bits.proofs.Lists.{length-bitsOf}
 use Rattle.gorilla.proofs.Counts.{both}

@@ -1,25 +1,22 @@
 -- An image is read back. Assumes nothing.
-use Prim.Native.Nat.{ℕ, zero, suc, _+_, _-_, _*_, _/_, _%_, _^_, _≤_, _<_}
-use mathlib.Core.Path.{_≡_, refl, sym, ap, ap₂, _∙_, subst}
-use mathlib.Core.Bool.{Bool, true, false}
+use Prim.Native.Nat.{ℕ, suc, _+_, _-_, _*_, _/_, _%_, _^_, _<_}
+use mathlib.Core.Path.{_≡_, refl, sym, ap, ap₂, _∙_}
+use mathlib.Core.Bool.{Bool, true}
 use mathlib.Core.List.{List, [], _∷_, _++_, append-assoc, map}
 use native.Mathlib.Omega.{arith}
 use borrow.Author.Tests.{eq-eqb}
-use lib.Dec.{eqb}
 use lib.ListN.{length, getD, drop, replicate, length-append, length-replicate, length-map}
 use lib.Seq.{drop-at}
 use lib.IntN.{ℤ, pos}
 use mir.Syntax.{w64}
-use mir.Val.{SFits}
 use mir.Facts.{sfits-toZ}
 use Rattle.signed.specs.Signed.{signed, pattern, subS, addS}
-use Rattle.signed.proofs.Wrapping.{pattern-signed}
-use Rattle.raw_bits.specs.BitList.{natBits, bitsOf, byteLen, packed}
-use Rattle.gorilla.specs.Parser.{Read, read, refused, takeOff, takeBits, andThen}
+use Rattle.raw_bits.specs.BitList.{natBits, bitsOf, byteLen}
+use Rattle.gorilla.specs.Parser.{read}
 use Rattle.gorilla.specs.Format.{codeBits, codesBits, valuesBits, arrayBits, arrayBytes, leBytes, imageBytes}
-use Rattle.gorilla.specs.Reading.{readArray, leCount, readPart, Pairs, readPairs, readImage, valuesAfter}
+use Rattle.gorilla.specs.Reading.{leCount, readPart, readPairs, readImage, valuesAfter}
 use Rattle.gorilla.proofs.Taking.{take-is}
-use Rattle.gorilla.proofs.Trip.{AllFit, Strict, received, sentAfter, read-array, round-trip}
+use Rattle.gorilla.proofs.Trip.{AllFit, received, sentAfter, read-array}
 use Rattle.raw_bits.proofs.Lists.{length-bitsOf}
 use Rattle.raw_bits.proofs.Packing.{AllBits, bits-natBits, bits-append, bits-packed}
 

@@ -1,6 +1,6 @@
 -- What a call of `read_bits` says of the readers of bit lists. Assumes nothing.
-use Prim.Native.Nat.{ℕ, zero, suc, _+_, _-_, _*_, _≤_, _<_}
-use mathlib.Core.Path.{_≡_, refl, sym, ap, ap₂, _∙_, subst}
+use Prim.Native.Nat.{ℕ, zero, suc, _+_, _-_, _*_, _≤_}
+use mathlib.Core.Path.{_≡_, refl, sym, ap, ap₂, _∙_}
 use mathlib.Core.List.{List, [], _∷_}
 use native.Mathlib.Omega.{arith}
 use borrow.Author.Tests.{ne-eqb}
@@ -11,7 +11,7 @@ use Rattle.signed.specs.Extend.{extend, extendRule, toldExtend}
 use Rattle.gorilla.specs.Rows.{decoded}
 use Rattle.gorilla.specs.Rows.{widths}
 use Rattle.signed.proofs.Widths.{taken}
-use Rattle.bits.specs.Place.{posOf, placeOf}
+use Rattle.bits.specs.Place.{posOf}
 use Rattle.bits.specs.Read.{readRule, toldRead}
 use Rattle.bits.specs.declared.Place.{Place}
 use Rattle.bits.specs.declared.BitsRead.the-variants as rv

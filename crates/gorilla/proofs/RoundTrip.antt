@@ -1,5 +1,5 @@
 -- What is written is read as `received`, and a difference is wide exactly where that is not what was written: the round trip, both ways. Assumes nothing.
-use Prim.Native.Nat.{ℕ, zero, suc, _+_, _≤_, _<_, _^_}
+use Prim.Native.Nat.{ℕ, suc, _+_, _<_, _^_}
 use mathlib.Core.Path.{_≡_, refl, sym, ap, ap₂, _∙_}
 use mathlib.Core.Bool.{Bool, true, false, cond}
 use mathlib.Core.Logic.{_↔_}
@@ -9,14 +9,13 @@ use lib.ListN.{length, getD, length-map, List·getD-eq-default}
 use lib.IntN.{ℤ, pos}
 use mir.Syntax.{w64}
 use mir.Val.{SFits}
-use mir.Facts.{sfits-toZ}
 use Rattle.told.specs.Told.{Told, gave, refused, ifGood}
 use Rattle.told.proofs.Unique.{given-not-refused, same-list}
 use Rattle.signed.specs.Signed.{signed, pattern, addS, subS}
 use Rattle.gorilla.specs.Rows.{strict}
 use Rattle.signed.proofs.Wrapping.{pattern-signed, signed-pattern}
 use Rattle.raw_bits.specs.BitList.{bitsOf}
-use Rattle.gorilla.specs.Parser.{Read, read}
+use Rattle.gorilla.specs.Parser.{read}
 use Rattle.gorilla.specs.Format.{imageBytes}
 use Rattle.gorilla.specs.Reading.{Pairs, readImage, valuesAfter}
 use Rattle.gorilla.proofs.Rows.{by-le}

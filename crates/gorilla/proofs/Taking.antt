@@ -1,13 +1,12 @@
 -- Bits that were written are taken off again. Assumes nothing.
-use Prim.Native.Nat.{ℕ, zero, suc, _+_, _-_, _*_, _/_, _%_, _^_, _≤_, _<_}
-use mathlib.Core.Path.{_≡_, refl, sym, ap, _∙_}
-use mathlib.Core.List.{List, [], _∷_, _++_, append-assoc}
-use native.Mathlib.Nat.{mul-assoc, mul-comm, add-mul, pow-suc, mod-mod, mod-eq-of-lt}
+use Prim.Native.Nat.{ℕ, zero, suc, _+_, _-_, _*_, _/_, _%_, _^_, _<_}
+use mathlib.Core.Path.{_≡_, sym, ap, _∙_}
+use mathlib.Core.List.{List, _++_}
+use native.Mathlib.Nat.{mul-assoc, mul-comm, add-mul, pow-suc, mod-eq-of-lt}
 use native.Mathlib.Omega.{arith}
-use lib.ListN.{length}
 use lib.Pow.{mod-pow-add}
 use Rattle.raw_bits.specs.BitList.{natBits}
-use Rattle.gorilla.specs.Parser.{Read, read, refused, takeOff}
+use Rattle.gorilla.specs.Parser.{read, takeOff}
 
 -- a number's highest bit of suc n, then the others
 pub one-more : (v x n : ℕ) → (v * 2 + x / 2 ^ n % 2) * 2 ^ n + x % 2 ^ n ≡ v * 2 ^ suc n + x % 2 ^ suc n

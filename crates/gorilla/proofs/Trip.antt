@@ -1,13 +1,13 @@
 -- What is written is read back, exactly where every difference of deltas is strict. Assumes nothing.
-use Prim.Native.Nat.{ℕ, zero, suc, _+_, _-_, _*_, _/_, _%_, _^_, _≤_, _<_}
-use mathlib.Core.Path.{_≡_, refl, sym, ap, ap₂, _∙_, subst}
+use Prim.Native.Nat.{ℕ, _+_, _-_, _%_, _^_, _≤_, _<_}
+use mathlib.Core.Path.{_≡_, refl, sym, ap, _∙_}
 use mathlib.Core.Bool.{Bool, true, false, cond}
 use mathlib.Core.List.{List, [], _∷_, _++_, append-assoc}
 use native.Mathlib.Nat.{mod-lt}
 use native.Mathlib.Omega.{arith}
-use borrow.Author.Tests.{lt-ltb, le-ltb, ltb-true, ltb-false}
+use borrow.Author.Tests.{ltb-true, ltb-false}
 use lib.Dec.{leb, ltb}
-use lib.ListN.{length, getD}
+use lib.ListN.{length}
 use lib.Pow.{pow-pos, pow-mono}
 use lib.IntN.{ℤ, pos, negsuc, natAbs}
 use lib.Signed.{mag}
@@ -18,11 +18,11 @@ use Rattle.gorilla.specs.declared.Row.{Row}
 use Rattle.signed.specs.Signed.{signed, pattern, addW, subW, addS, subS}
 use Rattle.signed.specs.Inner.{lowBits}
 use Rattle.signed.specs.Extend.{extend, signedOf}
-use Rattle.gorilla.specs.Rows.{row, rowAt, rowOf, decoded, widths, strict}
+use Rattle.gorilla.specs.Rows.{row, rowOf, decoded, strict}
 use Rattle.signed.proofs.Wrapping.{pattern-signed, signed-pattern, addS-subS, sub-add, sub-lt}
 use Rattle.signed.proofs.Widths.{two-halves, read-low, read-high}
 use Rattle.raw_bits.specs.BitList.{natBits}
-use Rattle.gorilla.specs.Parser.{Read, read, refused, takeOff, andThen}
+use Rattle.gorilla.specs.Parser.{read, takeOff, andThen}
 use Rattle.gorilla.specs.Format.{codeBits, codesBits, valuesBits, arrayBits}
 use Rattle.gorilla.specs.Reading.{countOnes, readCode, readCodes, valuesAfter, readValues, readArray}
 use Rattle.gorilla.proofs.Rows.{reads-back, mag-strict, strict-of}

@@ -1,9 +1,8 @@
 -- What `step` answers, in the words of the log.
 use mathlib.Core.Path.{_≡_, refl}
-use mathlib.Core.List.{List, [], _∷_}
-use Prim.Native.Nat.{ℕ, _+_}
+use mathlib.Core.List.{List}
+use Prim.Native.Nat.{ℕ}
 use lib.IntN.{ℤ}
-use Rattle.tracker.specs.Refusal.{told}
 use Rattle.tracker.specs.declared.TrackedSeq.{TrackedSeq}
 use Rattle.offers.specs.Whole.{leaving, Leaves}
 use Rattle.offers.specs.Offer.{toldOffer, offeredTo, offering}

@@ -5,7 +5,7 @@ use mathlib.Core.List.{List, [], _∷_, _++_}
 use lib.Dec.{eqb}
 use lib.IntN.{ℤ}
 use lib.ListN.{length}
-use Rattle.told.specs.Told.{Told, gave, refused}
+use Rattle.told.specs.Told.{Told, refused}
 use Rattle.tracker.specs.Table.{kept}
 use Rattle.tracker.specs.declared.TrackedSeq.{TrackedSeq}
 use Rattle.offers.specs.Whole.{Table, checkIn, Left, leaving}

@@ -2,13 +2,13 @@
 use Prim.Native.Nat.{ℕ, zero, suc, _+_, _-_, _*_, _/_, _%_, _^_, _≤_, _<_}
 use mathlib.Core.Path.{_≡_, subst, refl, sym, ap, ap₂, _∙_}
 use mathlib.Core.List.{List, [], _∷_}
-use native.Mathlib.Nat.{add-zero, add-suc, mul-one, mul-assoc, add-mul, add-assoc, zero-lt-suc, mod-lt, pow-suc, pow-zero, div-one, mod-one, zero-add, lt-of-lt-of-le, le-of-suc-le-suc, one-mul, pow-succ', div-div-eq-div-mul, mul-div-cancel, mod-eq-of-lt, not-suc-le-zero}
-use lib.Seq.{set-set, getD-set-same, getD-set-other}
+use native.Mathlib.Nat.{add-zero, add-suc, mul-assoc, add-mul, add-assoc, zero-lt-suc, mod-lt, pow-suc, div-one, mod-one, lt-of-lt-of-le, one-mul, pow-succ', div-div-eq-div-mul, mul-div-cancel, mod-eq-of-lt, not-suc-le-zero}
+use lib.Seq.{set-set, getD-set-same}
 use native.Mathlib.Numerals.{add-one}
 use native.Mathlib.Omega.{arith}
 use lib.ListN.{length, getD, set, length-set}
 use lib.Pow.{shl-lt, shr-lt, shl-exact, pow-pos, pow-mono, pow-add, shr-shr, mod-pow-add}
-use lib.Arith.{digits-lt, digits-div, digits-mod}
+use lib.Arith.{digits-lt}
 use Rattle.raw_bits.specs.Inner.{bitAt, bitsAt, putBit, putBits}
 
 pub bitAt-lt : (s : List ℕ) (p : ℕ) → bitAt s p < 2

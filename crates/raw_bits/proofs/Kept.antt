@@ -1,17 +1,17 @@
 -- What a write keeps and what is read back. Assumes nothing.
 use Prim.Native.Nat.{zero-le, ℕ, zero, suc, _+_, _-_, _*_, _/_, _%_, _^_, _≤_, _<_}
 use mathlib.Core.Path.{_≡_, subst, refl, sym, ap, ap₂, _∙_}
-use mathlib.Core.Logic.{_≢_, _⊎_, inl, inr, ⊎-elim}
-use mathlib.Core.List.{List, [], _∷_}
-use native.Mathlib.Nat.{add-zero, add-suc, mul-assoc, zero-lt-suc, mod-lt, mod-one, mod-eq-of-lt, pow-suc, div-one, eq-or-lt-of-le, mul-div-cancel, mul-mod-left, add-mul}
+use mathlib.Core.Logic.{_⊎_, inl, inr, ⊎-elim}
+use mathlib.Core.List.{List}
+use native.Mathlib.Nat.{add-zero, add-suc, mul-assoc, zero-lt-suc, mod-lt, mod-one, pow-suc, eq-or-lt-of-le, mul-div-cancel, mul-mod-left, add-mul}
 use native.Mathlib.Numerals.{add-one}
 use native.Mathlib.Omega.{arith}
-use lib.ListN.{length, getD, set, length-set}
+use lib.ListN.{length, getD, set}
 use lib.Seq.{getD-set-same, getD-set-other}
 use lib.Pow.{pow-pos, pow-add, shr-shr, mod-pow-add, high, shl-lt, field, mod-mod-pow}
 use lib.Arith.{digits-div, digits-mod}
 use Rattle.raw_bits.specs.Inner.{bitAt, bitsAt, putBit, putBits}
-use Rattle.raw_bits.proofs.Bits.{length-putBits, bitsAt-byte, bitsAt-add, merge-lt, putBits-add, byte-set}
+use Rattle.raw_bits.proofs.Bits.{length-putBits, merge-lt, putBits-add, byte-set}
 
 -- a bit of the new byte that is above the one written
 above : (x r i c : ℕ) → r < 8 → i < r → c < 2 → (x / 2 ^ (8 - r) * 2 ^ (8 - r) + c * 2 ^ (7 - r)) / 2 ^ (7 - i) ≡ x / 2 ^ (7 - i)

@@ -13,10 +13,9 @@ use Rattle.told.specs.Told.{Told, gave, refused, ifGood}
 use Rattle.told.specs.Over.{over, filled}
 use Rattle.gorilla.specs.Parser.{Read, read}
 use Rattle.gorilla.specs.Parser as parser
-use Rattle.gorilla.specs.Reading.{Pairs, readImage, pairsRead}
+use Rattle.gorilla.specs.Reading.{Pairs, pairsRead}
 use Rattle.gorilla.proofs.Counts.{image-counts}
 use Rattle.fresh.specs.Fresh.{freshTable}
-use Rattle.tracker.specs.Table.{pairsOf}
 use Rattle.tracker.specs.declared.SequenceTracker.{SequenceTracker}
 use Rattle.tracker.specs.declared.LastRecorded.{LastRecorded}
 use Rattle.tracker.specs.declared.LastRecorded.the-variants.{Never, At}

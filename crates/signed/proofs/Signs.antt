@@ -1,17 +1,16 @@
 -- Laws of signed numbers that several proofs cite. Assumes nothing.
 use mathlib.Core.Path.{_≡_, refl, sym, ap, _∙_, subst}
-use mathlib.Core.Bool.{Bool, true, false}
-use Prim.Native.Nat.{ℕ, zero, suc, _+_, _-_, _*_, _/_, _^_, _%_, _≤_, _<_}
-use native.Mathlib.Nat.{mod-eq-of-lt}
+use mathlib.Core.Bool.{true, false}
+use Prim.Native.Nat.{ℕ, _+_, _-_, _^_, _%_, _≤_, _<_}
 use native.Mathlib.Omega.{arith}
 use borrow.Author.Tests.{leb-false}
-use lib.Dec.{T, leb, ltb}
+use lib.Dec.{T}
 use lib.IntN.{ℤ, pos, negsuc, natAbs}
-use lib.Signed.{leZ, ltZ, nonNeg, mag}
+use lib.Signed.{leZ, nonNeg}
 use mir.Syntax.{w64}
 use mir.Val.{Fits, SFits, toZ, ofZ}
-use mir.Facts.{toZ-pos, toZ-neg, toZ-ofZ, ofZ-toZ, sfits-toZ}
-use Rattle.signed.specs.Signed.{signed, pattern, subW, addW, subS, addS}
+use mir.Facts.{toZ-pos, toZ-ofZ}
+use Rattle.signed.specs.Signed.{signed, pattern, subW}
 
 -- no test is both true and false
 pub never {ℓ} : {X : Type ℓ} → false ≡ true → X

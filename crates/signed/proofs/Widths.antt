@@ -2,18 +2,18 @@
 use mathlib.Core.Path.{_≡_, refl, sym, ap, ap₂, _∙_}
 use mathlib.Core.Bool.{Bool, true, false}
 use mathlib.Core.List.{[], _∷_}
-use Prim.Native.Nat.{ℕ, zero, suc, _+_, _-_, _*_, _/_, _^_, _%_, _≤_, _<_}
+use Prim.Native.Nat.{ℕ, suc, _+_, _-_, _*_, _/_, _^_, _%_, _≤_, _<_}
 use native.Mathlib.Nat.{add-zero, add-mul, suc-mul, mod-eq-of-lt, mod-mod, mod-lt, one-mul, pow-suc, mul-comm, two-mul, mul-div-cancel, mul-mod-left, mul-lt-mul-of-pos-right, mul-le-mul-right}
 use native.Mathlib.Omega.{arith}
 use borrow.Author.Tests.{lt-ltb, le-ltb, le-leb, lt-leb, ltb-true, ltb-false}
 use lib.Arith.{digits-div}
-use lib.Dec.{leb, ltb}
+use lib.Dec.{ltb}
 use lib.Pow.{pow-pos, pow-lt, pow-mono, pow-add, mod-pow-add, not-mod}
 use lib.IntN.{ℤ, pos, negsuc}
 use lib.Signed.{mag, shrZ}
 use mir.Syntax.{w64}
 use mir.Val.{SFits, sel}
-use Rattle.signed.specs.Signed.{signed, pattern}
+use Rattle.signed.specs.Signed.{signed}
 use Rattle.signed.specs.Inner.{lowBits}
 use Rattle.told.specs.Told.{gave, refused}
 use Rattle.signed.specs.Extend.{signedOf, extend, extendRule}

@@ -1,15 +1,14 @@
 -- Two's complement: round trips, a sum undoes a difference, and exactness where nothing wraps. Assumes nothing.
-use mathlib.Core.Path.{_≡_, refl, sym, ap, _∙_, subst}
+use mathlib.Core.Path.{_≡_, refl, sym, ap, _∙_}
 use mathlib.Core.Bool.{Bool, true, false, cond}
-use Prim.Native.Nat.{ℕ, zero, suc, _+_, _-_, _*_, _/_, _^_, _%_, _≤_, _<_}
+use Prim.Native.Nat.{ℕ, zero, suc, _-_, _^_, _≤_, _<_}
 use native.Mathlib.Omega.{arith}
-use borrow.Author.Tests.{lt-ltb, le-ltb, ltb-true, ltb-false, leb-true, leb-false}
-use lib.Dec.{leb, ltb}
-use lib.IntN.{ℤ, pos, negsuc, natAbs, subℕ, negℤ, _+ℤ_, _-ℤ_}
-use lib.Signed.{mag}
+use borrow.Author.Tests.{ltb-true, ltb-false}
+use lib.Dec.{ltb}
+use lib.IntN.{ℤ, pos, negsuc, subℕ, _-ℤ_}
 use mir.Syntax.{w64}
-use mir.Val.{Fits, SFits, toZ, ofZ}
-use mir.Facts.{toZ-ofZ, ofZ-toZ, toZ-pos, toZ-neg}
+use mir.Val.{SFits}
+use mir.Facts.{toZ-ofZ, ofZ-toZ}
 use Rattle.signed.specs.Signed.{signed, pattern, subW, addW, subS, addS}
 
 -- ---- round trips

@@ -2,7 +2,7 @@
 use mathlib.Core.Path.{_≡_, refl}
 use mathlib.Core.Bool.{false}
 use mathlib.Core.List.{List, [], _∷_}
-use Prim.Native.Nat.{ℕ, _<_}
+use Prim.Native.Nat.{ℕ}
 use borrow.Author.Tests.{lt-ltb, eq-eqb}
 use lib.Dec.{ltb}
 use lib.IntN.{ℤ}
@@ -12,8 +12,7 @@ use Rattle.tracker.specs.Table.{checkOf}
 use Rattle.tracker.specs.declared.LastRecorded.{LastRecorded}
 use Rattle.tracker.specs.declared.LastRecorded.the-variants.{Never, At}
 use Rattle.tracker.specs.declared.SequenceTracker.{SequenceTracker}
-use Rattle.states.specs.State.{noCapacity, tableOf, stateOf, lastIn, lastOut}
-use Rattle.states.specs.declared.State.{State}
+use Rattle.states.specs.State.{noCapacity, tableOf, lastIn, lastOut}
 use Rattle.table_answers.specs.Crossing.{Unusable, Crossing}
 
 -- a state that the check refuses with 14 is refused so by every call

@@ -4,7 +4,7 @@ use mathlib.Core.Path.{_≡_}
 use mathlib.Core.List.{List, [], _∷_}
 use lib.IntN.{ℤ}
 use lib.ListN.{length}
-use Rattle.told.specs.Told.{Told, gave, refused}
+use Rattle.told.specs.Told.{gave, refused}
 use Rattle.tracker.specs.declared.Seq.{Seq}
 use Rattle.tracker.specs.declared.Second.{Second}
 use Rattle.tracker.specs.declared.SequenceTracker.{SequenceTracker}

@@ -3,7 +3,7 @@ use Prim.Native.Nat.{ℕ}
 use mathlib.Core.Path.{_≡_}
 use mathlib.Core.List.{List, [], _∷_, _++_, map}
 use lib.ListN.{length, take, replicate}
-use lib.IntN.{ℤ, pos, negℤ}
+use lib.IntN.{pos, negℤ}
 use Rattle.told.specs.Told.{Told, gave, refused}
 use Rattle.told.specs.Over.{over, filled}
 use Rattle.signed.specs.Signed.{signed, subS}
@@ -20,7 +20,7 @@ use Rattle.lookup.specs.Find.{Partner, partner, nothing, findTs}
 use Rattle.lookup.specs.declared.FindOption.{FindOption}
 use Rattle.lookup.specs.declared.FindOption.the-variants.{RoundUp, RoundDown}
 use Rattle.offers.specs.Offer.{skipped, offerTo}
-use Rattle.log.specs.Log.{Log, stopped, logOf}
+use Rattle.log.specs.Log.{stopped, logOf}
 use Rattle.encoder.specs.Encode.{lenRule, encodeRule, strictRule}
 use Rattle.decoder.specs.Decode.{decodeRule, seqsAfter, secsAfter}
 use Rattle.offers.specs.Whole.{Table}

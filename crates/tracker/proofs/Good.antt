@@ -1,5 +1,5 @@
 -- What a table has for which the rules 14, 11, 12 and 13 are passed, and the other way round.
-use mathlib.Core.Path.{_≡_, refl, sym, ap, _∙_}
+use mathlib.Core.Path.{_≡_, refl, sym, _∙_}
 use mathlib.Core.Bool.{Bool, true, false, cond, _||_}
 use mathlib.Core.List.{List, [], _∷_}
 use Prim.Native.Nat.{ℕ, _≤_, _<_}
@@ -11,7 +11,7 @@ use lib.IntN.{ℤ, pos}
 use lib.ListN.{length}
 use lib.Seq.{length-take-le}
 use lib.Signed.{ltZ}
-use Rattle.told.specs.Told.{Told, gave, refused}
+use Rattle.told.specs.Told.{gave}
 use Rattle.limits.specs.Domain.{outside}
 use Rattle.limits.specs.Settings.{roomOf}
 use Rattle.order.specs.First.{first}

@@ -1,11 +1,7 @@
 -- `signed::as_unsigned` meets its contract. Assumes nothing.
-use mathlib.Core.Path.{_≡_, refl, sym, ap, _∙_, subst}
 use native.Mathlib.Omega.{arith}
 use Prim.Native.Nat.{_≤_, _<_, _^_}
 use Rattle.signed.specs.Signed.{pattern}
-use lib.IntN.{ℤ, natAbs}
-use lib.Signed.{leZ}
-use mathlib.Core.Bool.{Bool}
 use mir.Facts.{toZ-ofZ}
 use Rattle.signed.proofs.Signs.{at-least-0, at-least-0-is, below-0, flip}
 use Rattle.signed.proofs.as_unsigned.Statement.{statement}

@@ -2,7 +2,7 @@ use mathlib.Core.Path.{_≡_, ap, _∙_}
 use native.Mathlib.Omega.{arith}
 use mir.Facts.{toZ-ofZ}
 use borrow.Author.Needs.{sfits-of}
-use Rattle.signed.specs.Signed.{signed, pattern, subW, addW}
+use Rattle.signed.specs.Signed.{signed, pattern, subW}
 use Rattle.signed.proofs.Signs.{sub-is}
 use borrow.Author.Needs.{needs}
 use Rattle.signed.proofs.wrapping_sub.Statement.{statement}

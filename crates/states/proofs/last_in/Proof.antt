@@ -1,6 +1,5 @@
 use borrow.Author.Tests.{eq-eqb, ne-eqb}
 use mir.Facts.{toZ-ofZ}
-use borrow.Author.Needs.{needs}
 use Rattle.states.proofs.last_in.Statement.{statement}
 use Rattle.states.proofs.last_in.Tie as tie
 

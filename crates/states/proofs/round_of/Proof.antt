@@ -1,5 +1,4 @@
 use borrow.Author.Tests.{eq-eqb, ne-eqb}
-use borrow.Author.Needs.{needs}
 use Rattle.states.proofs.round_of.Statement.{statement}
 use Rattle.states.proofs.round_of.Tie as tie
 

@@ -1,4 +1,3 @@
-use native.Mathlib.Omega.{arith}
 use borrow.Author.Needs.{needs}
 use Rattle.bits.proofs.Answers.{place-on}
 use Rattle.bits.proofs.inner.after.Statement.{statement}

@@ -1,4 +1,3 @@
-use native.Mathlib.Omega.{arith}
 use borrow.Author.Needs.{needs}
 use Rattle.bits.proofs.Answers.{read-width, read-short, read-value}
 use Prim.Native.Nat.{_+_, _*_}

@@ -4,7 +4,6 @@ use mathlib.Core.Path.{_≡_, sym, ap}
 use lib.Pow.{shl-exact, pow-add, pow-mono}
 use lib.Arith.{digits-lt}
 use borrow.Author.Needs.{needs}
-use Rattle.code_writer.specs.declared.Held.{Held}
 use Rattle.code_writer.proofs.code.joined.Statement.{statement}
 use Rattle.code_writer.proofs.code.joined.Tie as tie
 

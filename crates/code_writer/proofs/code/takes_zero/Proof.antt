@@ -1,4 +1,4 @@
-use mathlib.Core.Path.{_≡_, sym, ap, _∙_}
+use mathlib.Core.Path.{sym, ap, _∙_}
 use mathlib.Core.Bool.{false≢true}
 use borrow.Author.Tests.{ltb-true}
 use mir.Facts.{toZ-ofZ}

@@ -1,6 +1,6 @@
 use borrow.Author.Needs.{needs}
-use Prim.Native.Nat.{ℕ, _+_, _-_, _*_, _/_, _%_, _^_}
-use mathlib.Core.Path.{_≡_, sym, ap, _∙_}
+use Prim.Native.Nat.{ℕ, _-_, _/_, _%_, _^_}
+use mathlib.Core.Path.{sym, ap, _∙_}
 use Rattle.raw_bits.proofs.Bits.{bitAt-eq}
 use Rattle.raw_bits.proofs.inner.bit_at.Statement.{statement}
 use Rattle.raw_bits.proofs.inner.bit_at.Tie as tie

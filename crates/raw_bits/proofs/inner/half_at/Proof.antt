@@ -1,7 +1,5 @@
 use native.Mathlib.Omega.{arith}
-use Prim.Native.Nat.{ℕ, zero, suc, _+_, _-_, _*_, _/_, _%_, _^_, _≤_, _<_}
-use mathlib.Core.Path.{_≡_, refl, sym, ap, ap₂, _∙_}
-use lib.ListN.{length, getD, set}
+use Prim.Native.Nat.{_+_, _-_}
 use Rattle.raw_bits.proofs.Bits.{one-byte, next-byte}
 use borrow.Author.Needs.{needs}
 use Rattle.raw_bits.proofs.inner.half_at.Statement.{statement}

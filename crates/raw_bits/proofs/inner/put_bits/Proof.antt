@@ -1,13 +1,13 @@
 use native.Mathlib.Omega.{arith}
 use borrow.Author.Needs.{needs}
-use Prim.Native.Nat.{ℕ, zero, suc, _+_, _-_, _*_, _/_, _%_, _^_, _≤_, _<_, min}
-use mathlib.Core.Path.{_≡_, refl, sym, ap, ap₂, _∙_, subst}
+use Prim.Native.Nat.{ℕ, _+_, _-_, _*_, _/_, _%_, _^_, _≤_, _<_}
+use mathlib.Core.Path.{_≡_, refl, sym, ap, _∙_, subst}
 use mathlib.Core.List.{List}
-use native.Mathlib.Nat.{div-one, le-refl, mod-lt}
+use native.Mathlib.Nat.{le-refl, mod-lt}
 use lib.Pow.{pow-pos}
 use lib.ListN.{length, getD, set, length-set}
 use Rattle.raw_bits.specs.Inner.{putBits}
-use Rattle.raw_bits.proofs.Bits.{put-some, put-left, put-total, put-none, put-first, put-all, byte-set, length-putBits}
+use Rattle.raw_bits.proofs.Bits.{put-left, put-total, put-none, put-first, put-all, byte-set}
 use Rattle.raw_bits.proofs.inner.put_bits.Statement.{statement}
 use Rattle.raw_bits.proofs.inner.put_bits.Tie as tie
 

@@ -1,11 +1,11 @@
-use mathlib.Core.Path.{_≡_, refl, sym, _∙_, ap}
-use Prim.Native.Nat.{_≤_, _<_, _-_, _+_}
+use mathlib.Core.Path.{_≡_, refl}
+use Prim.Native.Nat.{_≤_, _-_}
 use native.Mathlib.Omega.{arith}
 use lib.ListN.{length, length-set, take, getD}
 use lib.IntN.{pos}
 use Rattle.order.proofs.Order.{round}
 use Rattle.told.specs.Over.{over}
-use Rattle.settling.proofs.Copy.{copy-more, copy-long}
+use Rattle.settling.proofs.Copy.{copy-more}
 use Rattle.settling.proofs.inner.copy_secs.Statement.{statement}
 use Rattle.settling.proofs.inner.copy_secs.Tie as tie
 

@@ -1,9 +1,9 @@
-use mathlib.Core.Path.{_≡_, refl, sym, _∙_, ap}
-use Prim.Native.Nat.{_≤_, _<_, _-_, _+_}
+use mathlib.Core.Path.{_≡_, refl}
+use Prim.Native.Nat.{_≤_, _-_}
 use native.Mathlib.Omega.{arith}
 use lib.ListN.{length, length-set, take}
 use Rattle.told.specs.Over.{over}
-use Rattle.settling.proofs.Copy.{copy-more, copy-long}
+use Rattle.settling.proofs.Copy.{copy-more}
 use Rattle.settling.proofs.inner.copy_seqs.Statement.{statement}
 use Rattle.settling.proofs.inner.copy_seqs.Tie as tie
 

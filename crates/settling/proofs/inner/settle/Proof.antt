@@ -1,9 +1,8 @@
 use borrow.Author.Needs.{needs}
-use mathlib.Core.Path.{_≡_, refl, sym, ap, _∙_}
+use mathlib.Core.Path.{refl, sym, ap, _∙_}
 use Rattle.told.specs.Told.{gave}
 use Rattle.tracker.specs.Refusal.{toldCheck}
 use Rattle.fresh.specs.Fresh.{freshTable}
-use Rattle.tracker.specs.Table.{pairsOf}
 use Rattle.tracker.specs.declared.LastRecorded.{LastRecorded}
 use Rattle.settling.proofs.inner.settle.Statement.{statement}
 use Rattle.settling.proofs.inner.settle.Tie as tie
