@@ -15,7 +15,7 @@ use mir.Facts.{sfits-toZ}
 use Rattle.signed.specs.Signed.{signed, pattern, subS, addS}
 use Rattle.signed.proofs.Wrapping.{pattern-signed}
 use Rattle.raw_bits.specs.BitList.{natBits, bitsOf, byteLen, packed}
-use Rattle.gorilla.specs.Parser.{Read, read, refused, takeOff, takeBits, andThen}
+use Rattle.gorilla.specs.Parser.{read}
 use Rattle.gorilla.specs.Format.{codeBits, codesBits, valuesBits, arrayBits, arrayBytes, leBytes, imageBytes}
 use Rattle.gorilla.specs.Reading.{readArray, leCount, readPart, Pairs, readPairs, readImage, valuesAfter}
 use Rattle.gorilla.proofs.Taking.{take-is}

@@ -7,7 +7,7 @@ use native.Mathlib.Nat.{add-zero, zero-div}
 use native.Mathlib.Omega.{arith}
 use borrow.Author.Tests.{ltb-true, ltb-false}
 use lib.Dec.{ltb}
-use lib.ListN.{length, getD, length-append, length-set, List·getD-append, List·getD-eq-default}
+use lib.ListN.{length, getD, length-append, length-set, List·getD-append}
 use lib.Seq.{getD-append-add}
 use Rattle.raw_bits.specs.BitList.{natBits, bitsOf}
 use Rattle.raw_bits.specs.Inner.{bitAt, putBit, putBits, putList}

@@ -2,19 +2,18 @@
 use Prim.Native.Nat.{ℕ, zero, suc, _+_, _-_, _*_, _/_, _%_, _^_, _≤_, _<_}
 use mathlib.Core.Path.{_≡_, refl, sym, ap, ap₂, _∙_, subst}
 use mathlib.Core.Bool.{Bool, true, false}
-use mathlib.Core.List.{List, [], _∷_, _++_, append-assoc, append-nil}
-use native.Mathlib.Nat.{mod-lt, zero-lt-suc, pow-suc, mul-assoc, mul-comm, add-mul, add-zero, mod-eq-of-lt, mul-one, zero-add}
-use native.Mathlib.Numerals.{add-one}
+use mathlib.Core.List.{List, [], _∷_, _++_, append-nil}
+use native.Mathlib.Nat.{mod-lt, zero-lt-suc, pow-suc, mul-assoc, mul-comm, add-mul, add-zero, mod-eq-of-lt, zero-add}
 use native.Mathlib.Omega.{arith}
 use borrow.Author.Tests.{ltb-true, ltb-false}
 use lib.Dec.{ltb}
-use lib.ListN.{length, getD, set, take, drop, replicate, length-append, length-take, length-drop, length-replicate, length-set, take-append-drop}
-use lib.Seq.{take-append-le, drop-append-le, take-append-add, take-add, sets, length-take-le, getD-set-same, getD-set-other}
+use lib.ListN.{length, getD, set, take, drop, replicate, length-append, length-drop, length-set, take-append-drop}
+use lib.Seq.{take-append-le, drop-append-le, take-append-add, take-add, sets, length-take-le}
 use lib.Arith.{digits-div, digits-mod}
-use Rattle.raw_bits.specs.Inner.{putBit, putBits, putList}
+use Rattle.raw_bits.specs.Inner.{putBits, putList}
 use Rattle.raw_bits.proofs.Bits.{putBits-byte, byte-set}
 use Rattle.raw_bits.specs.BitList.{natBits, bitsOf, natFrom, bytesOf, byteLen, packed}
-use Rattle.raw_bits.proofs.Lists.{length-natBits, length-bitsOf, put-nat, put-append}
+use Rattle.raw_bits.proofs.Lists.{put-nat, put-append}
 
 unfoldable pub AllBits : List ℕ → Type 0
 AllBits [] = Unit {0}

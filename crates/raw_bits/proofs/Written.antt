@@ -3,15 +3,15 @@ use Prim.Native.Nat.{ℕ, zero, suc, _+_, _-_, _*_, _/_, _%_, _^_, _≤_, _<_}
 use mathlib.Core.Path.{_≡_, refl, sym, ap, ap₂, _∙_, subst}
 use mathlib.Core.Bool.{Bool, true, false}
 use mathlib.Core.List.{List, [], _∷_, _++_}
-use native.Mathlib.Nat.{add-zero, add-suc, zero-add, mul-div-cancel, mod-eq-of-lt}
+use native.Mathlib.Nat.{add-suc, zero-add, mul-div-cancel, mod-eq-of-lt}
 use native.Mathlib.Omega.{arith}
 use borrow.Author.Tests.{ltb-true, ltb-false}
 use lib.Dec.{ltb}
 use lib.ListN.{length, getD, set, take, drop, length-append, length-drop}
-use lib.Seq.{take-suc, take-append-le, take-append-add, getD-drop, sets, sets-eq, length-take-le}
+use lib.Seq.{take-suc, take-append-le, take-append-add, getD-drop, sets-eq, length-take-le}
 use lib.Pow.{pow-pos, shr-lt, shr-shr}
 use Rattle.raw_bits.specs.BitList.{natBits, bitsOf, natFrom, packed}
-use Rattle.raw_bits.specs.Inner.{bitAt, bitsAt, putBit, putBits, putList}
+use Rattle.raw_bits.specs.Inner.{bitsAt, putBit, putBits, putList}
 use Rattle.raw_bits.proofs.Bits.{putBits-byte, putBit-eq}
 use Rattle.raw_bits.proofs.Lists.{length-natBits, length-bitsOf, bit-is, put-nat, put-append}
 use Rattle.raw_bits.proofs.Packing.{AllBits, bits-natBits, bits-append, bits-take, bits-of, from-append, put-packed, length-packed}
