@@ -16,7 +16,7 @@ use Rattle.bits.specs.declared.Place.{Place}
 use Rattle.bits.proofs.Answers.{pos-le}
 use Rattle.raw_bits.specs.BitList.{bitsOf, byteLen}
 use Rattle.gorilla.specs.Inner.{shape, isRead}
-use Rattle.gorilla.specs.Parser.{Read, read, refused, takeOff, andThen, readOr, require}
+use Rattle.gorilla.specs.Parser.{Read, read, refused, takeBits, andThen, readOr, require}
 use Rattle.bits.specs.Inner.{bitsFrom}
 use Rattle.gorilla.specs.Reading.{readCode, readCodes, valuesAfter, readValues, readArray, readPart}
 use Rattle.raw_bits.proofs.Lists.{length-bitsOf}
@@ -51,7 +51,7 @@ end-within len e = omega (arith, pos-le len e)
 
 -- ---- the values, by what was scanned
 module _ (s : List ℕ) (a : ℕ) (bs : List ℕ) where
-  pub values-found : (n : ℕ) (q e : Place) → 1 ≤ n → {v : ℕ} {f : ℤ} → f ≡ signed v → takeOff (5 ∷ a ∷ []) 64 0 bs ≡ read v (bitsFrom s q)
+  pub values-found : (n : ℕ) (q e : Place) → 1 ≤ n → {v : ℕ} {f : ℤ} → f ≡ signed v → takeBits 64 (5 ∷ a ∷ []) bs ≡ read v (bitsFrom s q)
       → read tt (bitsFrom s e) ≡ shape (readCodes a (n - 1) 1 (bitsFrom s q))
       → read (arrayAt s a n f q) (drop (byteLen (posOf (length s) e) * 8) (bitsOf s)) ≡ aligned (readValues a n bs)
   unfolding readValues arrayAt
@@ -68,7 +68,7 @@ module _ (s : List ℕ) (a : ℕ) (bs : List ℕ) where
   values-passed zero q e h l k = tt
   values-passed (suc m) q e h l k = let o : suc m - 1 ≡ m = omega arith in (l, shape-is (readCodes a m 1 (bitsFrom s q)) (rw o at k))
 
-  pub values-cut : (n : ℕ) → 1 ≤ n → {v : ℕ} {q : List ℕ} {l : List ℕ} → takeOff (5 ∷ a ∷ []) 64 0 bs ≡ read v q → refused l ≡ shape (readCodes a (n - 1) 1 q)
+  pub values-cut : (n : ℕ) → 1 ≤ n → {v : ℕ} {q : List ℕ} {l : List ℕ} → takeBits 64 (5 ∷ a ∷ []) bs ≡ read v q → refused l ≡ shape (readCodes a (n - 1) 1 q)
       → refused l ≡ aligned (readValues a n bs)
   unfolding readValues
   values-cut zero h j k = absurd (omega (arith, h))
@@ -76,22 +76,22 @@ module _ (s : List ℕ) (a : ℕ) (bs : List ℕ) where
       let o : suc m - 1 ≡ m = omega arith in
       rw j (rw (shape-refused (readCodes a m 1 q) (rw o at k)))
 
-  pub values-short : (n : ℕ) → 1 ≤ n → takeOff (5 ∷ a ∷ []) 64 0 bs ≡ refused (5 ∷ a ∷ []) → refused (5 ∷ a ∷ []) ≡ aligned (readValues a n bs)
+  pub values-short : (n : ℕ) → 1 ≤ n → takeBits 64 (5 ∷ a ∷ []) bs ≡ refused (5 ∷ a ∷ []) → refused (5 ∷ a ∷ []) ≡ aligned (readValues a n bs)
   unfolding readValues
   values-short zero h j = absurd (omega (arith, h))
   values-short (suc m) h j = rw j
 
 -- ---- the count
 module _ (a : ℕ) (room : ℕ → Bool) (bs : List ℕ) where
-  pub array-some : {n : ℕ} {q : List ℕ} → takeOff (4 ∷ a ∷ []) 32 0 bs ≡ read n q → room n ≡ true → readArray a room bs ≡ readValues a n q
+  pub array-some : {n : ℕ} {q : List ℕ} → takeBits 32 (4 ∷ a ∷ []) bs ≡ read n q → room n ≡ true → readArray a room bs ≡ readValues a n q
   unfolding readArray
   array-some h k = rw h (rw k)
 
-  pub array-many : {n : ℕ} {q : List ℕ} → takeOff (4 ∷ a ∷ []) 32 0 bs ≡ read n q → room n ≡ false → readArray a room bs ≡ refused (10 ∷ a ∷ [])
+  pub array-many : {n : ℕ} {q : List ℕ} → takeBits 32 (4 ∷ a ∷ []) bs ≡ read n q → room n ≡ false → readArray a room bs ≡ refused (10 ∷ a ∷ [])
   unfolding readArray
   array-many h k = rw h (rw k)
 
-  pub array-cut : takeOff (4 ∷ a ∷ []) 32 0 bs ≡ refused (4 ∷ a ∷ []) → readArray a room bs ≡ refused (4 ∷ a ∷ [])
+  pub array-cut : takeBits 32 (4 ∷ a ∷ []) bs ≡ refused (4 ∷ a ∷ []) → readArray a room bs ≡ refused (4 ∷ a ∷ [])
   unfolding readArray
   array-cut h = rw h
 
@@ -170,7 +170,7 @@ module _ (a : ℕ) (room : ℕ → Bool) (n : ℕ) (bs : List ℕ) where
 values-length : (a n : ℕ) (q : List ℕ) {xs : List ℤ} {r : List ℕ} → read xs r ≡ aligned (readValues a n q) → length xs ≡ n
 unfolding readValues
 values-length a zero q {xs} {r} h = let e : xs ≡ [] = cc in ap length e
-values-length a (suc k) q {xs} {r} h = go (takeOff (5 ∷ a ∷ []) 64 0 q) h
+values-length a (suc k) q {xs} {r} h = go (takeBits 64 (5 ∷ a ∷ []) q) h
   where
     last : (x : ℤ) (t : Read (List ℤ)) → (isRead t ≡ true → length (readOr [] t) ≡ k) → read xs r ≡ aligned (andThen t (λ ds cs. read (x ∷ valuesAfter x (pos 0) ds) cs)) → length xs ≡ suc k
     last x (read ds cs) f g = let e : xs ≡ x ∷ valuesAfter x (pos 0) ds = cc in ap length e ∙ ap suc (length-after x (pos 0) ds ∙ f refl)
@@ -182,7 +182,7 @@ values-length a (suc k) q {xs} {r} h = go (takeOff (5 ∷ a ∷ []) 64 0 q) h
 
 pub array-room : (a : ℕ) (room : ℕ → Bool) (bs : List ℕ) {xs : List ℤ} {r : List ℕ} → read xs r ≡ aligned (readArray a room bs) → room (length xs) ≡ true
 unfolding readArray
-array-room a room bs {xs} {r} h = go (takeOff (4 ∷ a ∷ []) 32 0 bs) h
+array-room a room bs {xs} {r} h = go (takeBits 32 (4 ∷ a ∷ []) bs) h
   where
     by-room : (n : ℕ) (q : List ℕ) (t : Bool) → room n ≡ t → read xs r ≡ aligned (andThen (require t (10 ∷ a ∷ []) q) (λ u. readValues a n)) → room (length xs) ≡ true
     by-room n q true e g = ap room (values-length a n q g) ∙ e

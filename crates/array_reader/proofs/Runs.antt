@@ -2,7 +2,7 @@
 use Prim.Native.Nat.{ℕ, zero, suc, _+_, _-_, _*_, _≤_, _<_}
 use mathlib.Core.Path.{_≡_, refl, sym, ap, ap₂, _∙_}
 use mathlib.Core.Bool.{Bool, true, false, cond}
-use mathlib.Core.List.{List, _∷_, _++_}
+use mathlib.Core.List.{List, [], _∷_, _++_}
 use native.Mathlib.Nat.{add-zero, not-suc-le-zero}
 use native.Mathlib.Numerals.{add-one}
 use native.Mathlib.Omega.{arith}
@@ -17,10 +17,11 @@ use Rattle.bits.specs.declared.Place.{Place}
 use Rattle.bits.proofs.Answers.{pos-place}
 use Rattle.raw_bits.specs.BitList.{bitsOf}
 use Rattle.gorilla.specs.Inner.{shape}
-use Rattle.gorilla.specs.Parser.{read, refused, takeOff}
+use Rattle.gorilla.specs.Parser.{read, refused}
 use Rattle.bits.specs.Inner.{bitsFrom}
 use Rattle.gorilla.specs.Reading.{countOnes, readCode, readCodes}
 use Rattle.raw_bits.proofs.Lists.{bit-is, length-bitsOf}
+use Rattle.gorilla.proofs.Taking.{no-bits}
 use Rattle.gorilla.proofs.Readers.{shape-next}
 use Rattle.code_reader.specs.Refusal.{told}
 use Rattle.code_reader.specs.declared.Refusal.{Refusal}
@@ -29,15 +30,17 @@ use Rattle.code_reader.specs.declared.window.Window.{Window}
 use Rattle.code_reader.specs.declared.code.CodeRead.the-variants as c
 
 -- ---- n zeros before other bits
+zero-code : (a i : ℕ) (bs : List ℕ) → read (pos 0) bs ≡ readCode a i (0 ∷ bs)
+unfolding readCode countOnes
+zero-code a i bs = rw (no-bits (8 ∷ a ∷ i ∷ 0 ∷ []) bs)
+
 -- the first of them is the code of 0
 pub zeros-code : (a i n : ℕ) (bs : List ℕ) → 0 < n → read (pos 0) (replicate (n - 1) 0 ++ bs) ≡ readCode a i (replicate n 0 ++ bs)
-unfolding readCode countOnes takeOff
 zeros-code a i zero bs h = absurd (not-suc-le-zero h)
-zeros-code a i (suc n) bs h = let e : suc n - 1 ≡ n = omega arith in ap (λ (u : ℕ). read (pos 0) (replicate u 0 ++ bs)) e
+zeros-code a i (suc n) bs h = let e : suc n - 1 ≡ n = omega arith in ap (λ (u : ℕ). read (pos 0) (replicate u 0 ++ bs)) e ∙ zero-code a i (replicate n 0 ++ bs)
 
 -- they are n codes
 pub zeros-codes : (a n k i : ℕ) (bs : List ℕ) → shape (readCodes a (n + k) i (replicate n 0 ++ bs)) ≡ shape (readCodes a k (i + n) bs)
-unfolding readCode countOnes takeOff
 zeros-codes a zero k i bs =
     let e : 0 + k ≡ k = omega arith in
     ap₂ (λ (u v : ℕ). shape (readCodes a u v bs)) e (sym (add-zero i))
@@ -45,7 +48,7 @@ zeros-codes a (suc n) k i bs =
     let e : suc n + k ≡ suc (n + k) = omega arith in
     let f : i + 1 + n ≡ i + suc n = omega arith in
     ap (λ (u : ℕ). shape (readCodes a u i (replicate (suc n) 0 ++ bs))) e
-    ∙ shape-next a (n + k) i (replicate (suc n) 0 ++ bs) {d = pos 0} {q = replicate n 0 ++ bs} refl
+    ∙ shape-next a (n + k) i (replicate (suc n) 0 ++ bs) {d = pos 0} {q = replicate n 0 ++ bs} (zero-code a i (replicate n 0 ++ bs))
     ∙ zeros-codes a n k (i + 1) bs ∙ ap (λ (u : ℕ). shape (readCodes a k u bs)) f
 
 -- those of bytes

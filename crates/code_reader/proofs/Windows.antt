@@ -12,7 +12,7 @@ use Rattle.raw_bits.specs.Inner.{bitAt, bitsAt}
 use Rattle.bits.specs.Place.{posOf}
 use Rattle.raw_bits.proofs.Bits.{bitAt-lt, bitsAt-add, bitsAt-lt}
 use Rattle.raw_bits.specs.BitList.{bitsOf}
-use Rattle.gorilla.specs.Parser.{read, refused, takeOff}
+use Rattle.gorilla.specs.Parser.{read, refused, takeBits}
 use Rattle.gorilla.proofs.Bridge.{take-at, take-short}
 use Rattle.code_reader.specs.Inner.{Holds}
 use Rattle.code_reader.specs.declared.window.Window.{Window}
@@ -86,7 +86,7 @@ module _ {s : List ℕ} {q : ℕ} {w : Window} (h : Holds s q w) where
   bits-in k n l = ap (λ (u : ℕ). u % 2 ^ n) (h .value (k + n) l ∙ bitsAt-add s q k n) ∙ digits-mod (bitsAt s q k) (bitsAt-lt s (q + k) n)
 
   -- the next bit, taken off
-  pub bit-off : (n : ℕ) → n < w .have → takeOff [] 1 0 (drop (q + n) (bitsOf s)) ≡ read (w .bits / 2 ^ (63 - n) % 2) (drop (q + (n + 1)) (bitsOf s))
+  pub bit-off : (n : ℕ) → n < w .have → takeBits 1 [] (drop (q + n) (bitsOf s)) ≡ read (w .bits / 2 ^ (63 - n) % 2) (drop (q + (n + 1)) (bitsOf s))
   unfolding bitsAt
   bit-off n k =
       let e : q + n + 1 ≡ q + (n + 1) = omega arith in
@@ -94,7 +94,7 @@ module _ {s : List ℕ} {q : ℕ} {w : Window} (h : Holds s q w) where
       take-at [] s 1 (q + n) (omega (arith, h .within)) ∙ ap₂ (λ (u v : ℕ). read u (drop v (bitsOf s))) b e
 
   -- none is left after n
-  pub none-off : (n : ℕ) → n ≡ w .have → n < 36 → takeOff [] 1 0 (drop (q + n) (bitsOf s)) ≡ refused []
+  pub none-off : (n : ℕ) → n ≡ w .have → n < 36 → takeBits 1 [] (drop (q + n) (bitsOf s)) ≡ refused []
   none-off n e k = let l : q + w .have ≡ length s * 8 = h .last (omega arith) in take-short [] s 1 (q + n) (omega arith) (omega arith)
 
   -- n bits that are the number 0

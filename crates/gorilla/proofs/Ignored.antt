@@ -1,5 +1,5 @@
 -- A reader takes bits off the front, and reads the same whatever stands after them: so bytes after an image, and padding, change nothing. Assumes nothing.
-use Prim.Native.Nat.{ℕ, zero, suc, _+_, _*_, _%_, _<_}
+use Prim.Native.Nat.{ℕ, zero, suc, _+_, _%_, _<_}
 use mathlib.Core.Path.{_≡_, refl, sym, ap, ap₂, subst, _∙_}
 use mathlib.Core.Bool.{Bool, true, false}
 use mathlib.Core.List.{List, [], _∷_, _++_, append-assoc, append-nil, map}
@@ -7,15 +7,16 @@ use native.Mathlib.Omega.{arith}
 use borrow.Author.Tests.{eqb-true}
 use lib.Dec.{eqb}
 use lib.ListN.{length, getD, take, drop, length-append, length-drop, take-append-drop}
-use lib.Seq.{drop-at, length-take-le}
+use lib.Seq.{take-at, drop-at, length-take-le}
 use lib.IntN.{ℤ}
 use Rattle.signed.specs.Signed.{pattern}
-use Rattle.raw_bits.specs.BitList.{bitsOf}
+use Rattle.raw_bits.specs.BitList.{bitsOf, natFrom}
 use Rattle.gorilla.specs.Rows.{widths}
-use Rattle.gorilla.specs.Parser.{Read, read, refused, Reader, andThen, _>>=_, give, require, takeOff, takeBits, align}
+use Rattle.gorilla.specs.Parser.{Read, read, refused, Reader, andThen, _>>=_, give, require, takeBits, align}
 use Rattle.gorilla.specs.Reading.{countOnes, readCode, readCodes, readValues, readArray, leCount, readPart, Pairs, readPairs}
 use Rattle.gorilla.specs.Ignored.{FollowingIgnored, Padded, PaddingIgnored}
 use Rattle.raw_bits.proofs.Lists.{length-bitsOf}
+use Rattle.gorilla.proofs.Taking.{enough, were-enough}
 use Rattle.gorilla.proofs.Counts.{both}
 use Rattle.gorilla.proofs.ImageTrip.{bitsOf-append}
 
@@ -52,16 +53,20 @@ module _ (May : List ℕ → List ℕ → Type 0) (grow : (u x y : List ℕ) →
   require-takes true l = give-takes tt
   require-takes false l = record { takes = λ bs left r h. impossible h }
 
-  off-taken : (l : List ℕ) (n v : ℕ) (bs left : List ℕ) (r : ℕ) → takeOff l n v bs ≡ read r left → Taken May (takeOff l n v) bs r left
-  unfolding takeOff
-  off-taken l zero v bs left r h = record { used = []; front = cc; same = λ x a. cc }
-  off-taken l (suc n) v [] left r h = impossible h
-  off-taken l (suc n) v (b ∷ bs) left r h =
-      let t = off-taken l n (v * 2 + b) bs left r h in
-      record { used = b ∷ t .used; front = ap (λ (k : List ℕ). b ∷ k) (t .front); same = t .same }
-
-  off-takes : (l : List ℕ) (n v : ℕ) → Takes May (takeOff l n v)
-  off-takes l n v = record { takes = off-taken l n v }
+  bits-takes : (n : ℕ) (l : List ℕ) → Takes May (takeBits n l)
+  bits-takes n l = record {
+    takes = λ bs left r h.
+        let w = were-enough l n bs h in
+        let k : length (take n bs) ≡ n = length-take-le n bs (w .0) in
+        record {
+          used = take n bs;
+          front = sym (take-append-drop n bs) ∙ ap (λ (u : List ℕ). take n bs ++ u) (sym (w .2));
+          same = λ x a.
+              enough l n (take n bs ++ x) (omega (arith, length-append (take n bs) x))
+              ∙ ap₂ (λ (u v : List ℕ). read (natFrom 0 u) v) (take-at (take n bs) x n k) (drop-at (take n bs) x n k)
+              ∙ ap (λ (u : ℕ). read u x) (sym (w .1));
+        };
+  }
 
   ones-taken : (a i k n : ℕ) (bs left : List ℕ) (r : ℕ) → countOnes a i k n bs ≡ read r left → Taken May (countOnes a i k n) bs r left
   unfolding countOnes
@@ -77,7 +82,7 @@ module _ (May : List ℕ → List ℕ → Type 0) (grow : (u x y : List ℕ) →
 
   code-takes : (a i : ℕ) → Takes May (readCode a i)
   unfolding readCode
-  code-takes a i = then-takes (ones-take a i 4 0) (λ n. then-takes (off-takes _ (getD widths n 0) 0) (λ v. give-takes _))
+  code-takes a i = then-takes (ones-take a i 4 0) (λ n. then-takes (bits-takes (getD widths n 0) _) (λ v. give-takes _))
 
   codes-take : (a k i : ℕ) → Takes May (readCodes a k i)
   unfolding readCodes
@@ -87,15 +92,15 @@ module _ (May : List ℕ → List ℕ → Type 0) (grow : (u x y : List ℕ) →
   values-take : (a n : ℕ) → Takes May (readValues a n)
   unfolding readValues
   values-take a zero = give-takes []
-  values-take a (suc k) = then-takes (off-takes _ 64 0) (λ v. then-takes (codes-take a k 1) (λ ds. give-takes _))
+  values-take a (suc k) = then-takes (bits-takes 64 _) (λ v. then-takes (codes-take a k 1) (λ ds. give-takes _))
 
   array-takes : (a : ℕ) (room : ℕ → Bool) → Takes May (readArray a room)
   unfolding readArray
-  array-takes a room = then-takes (off-takes _ 32 0) (λ n. then-takes (require-takes (room n) _) (λ u. values-take a n))
+  array-takes a room = then-takes (bits-takes 32 _) (λ n. then-takes (require-takes (room n) _) (λ u. values-take a n))
 
   count-takes : (l : List ℕ) → Takes May (leCount l)
   unfolding leCount
-  count-takes l = then-takes (off-takes l 8 0) (λ a. then-takes (off-takes l 8 0) (λ b. then-takes (off-takes l 8 0) (λ c. then-takes (off-takes l 8 0) (λ d. give-takes _))))
+  count-takes l = then-takes (bits-takes 8 l) (λ a. then-takes (bits-takes 8 l) (λ b. then-takes (bits-takes 8 l) (λ c. then-takes (bits-takes 8 l) (λ d. give-takes _))))
 
 -- ---- padding
 
@@ -139,7 +144,7 @@ part-takes a room n =
 pairs-take : (room : ℕ → Bool) → Takes Whole (readPairs room)
 unfolding readPairs
 pairs-take room =
-    then-takes Whole whole-grow (off-takes Whole whole-grow _ 8 0) (λ v.
+    then-takes Whole whole-grow (bits-takes Whole whole-grow 8 _) (λ v.
     then-takes Whole whole-grow (require-takes Whole whole-grow (eqb v 1) _) (λ u.
     then-takes Whole whole-grow (count-takes Whole whole-grow _) (λ n.
     then-takes Whole whole-grow (part-takes 0 room n) (λ xs.
@@ -201,11 +206,8 @@ part-of a room n bs left xs h =
         }
 
 -- the header is five bytes
-off-length : (l : List ℕ) (n v : ℕ) (bs left : List ℕ) (r : ℕ) → takeOff l n v bs ≡ read r left → length bs ≡ n + length left
-unfolding takeOff
-off-length l zero v bs left r h = let e : bs ≡ left = cc in rw e (omega arith)
-off-length l (suc n) v [] left r h = impossible h
-off-length l (suc n) v (b ∷ bs) left r h = omega (arith, off-length l n (v * 2 + b) bs left r h)
+off-length : (l : List ℕ) (n : ℕ) (bs left : List ℕ) (r : ℕ) → takeBits n l bs ≡ read r left → length bs ≡ n + length left
+off-length l n bs left r h = let w = were-enough l n bs h in let k : length left ≡ length (drop n bs) = ap length (w .2) in omega (arith, w .0, k, length-drop n bs)
 
 count-length : (l bs left : List ℕ) (r : ℕ) → leCount l bs ≡ read r left → length bs ≡ 32 + length left
 unfolding leCount
@@ -215,7 +217,7 @@ count-length l bs left r h =
     let c = both (takeBits 8 l (b .between)) _ (b .second) in
     let d = both (takeBits 8 l (c .between)) _ (c .second) in
     let e : d .between ≡ left = cc in
-    rw (← e) (omega (arith, off-length l 8 0 bs (a .between) (a .value) (a .first), off-length l 8 0 (a .between) (b .between) (b .value) (b .first), off-length l 8 0 (b .between) (c .between) (c .value) (c .first), off-length l 8 0 (c .between) (d .between) (d .value) (d .first)))
+    rw (← e) (omega (arith, off-length l 8 bs (a .between) (a .value) (a .first), off-length l 8 (a .between) (b .between) (b .value) (b .first), off-length l 8 (b .between) (c .between) (c .value) (c .first), off-length l 8 (c .between) (d .between) (d .value) (d .first)))
 
 -- what the readers of an image read, one after the other
 record Steps (room : ℕ → Bool) (bs : List ℕ) (p : Pairs) (left : List ℕ) : Type 0 where
@@ -256,7 +258,7 @@ steps-of room bs left p h =
 padded : (room : ℕ → Bool) (bs left : List ℕ) (p : Pairs) → length bs % 8 ≡ 0 → Steps room bs p left → Padded room bs p left
 unfolding Any readPairs
 padded room bs left p even s =
-    let v = off-taken Any any-grow (1 ∷ []) 8 0 bs (s .after-version) 1 (s .version-read) in
+    let v = bits-takes Any any-grow 8 (1 ∷ []) .takes bs (s .after-version) 1 (s .version-read) in
     let c = count-takes Any any-grow (3 ∷ []) .takes (s .after-version) (s .after-header) (s .count) (s .count-read) in
     let a = part-of 0 room (s .count) (s .after-header) (s .after-seqs) (s .values) (s .seqs-read) in
     let b = part-of 1 room (s .count) (s .after-seqs) left (p .secs) (s .secs-read) in
@@ -270,7 +272,7 @@ padded room bs left p even s =
       length-append (v .used) (s .after-version),
       length-append (c .used) (s .after-header),
       length-append (v .used) (c .used),
-      off-length (1 ∷ []) 8 0 bs (s .after-version) 1 (s .version-read),
+      off-length (1 ∷ []) 8 bs (s .after-version) 1 (s .version-read),
       count-length (3 ∷ []) (s .after-version) (s .after-header) (s .count) (s .count-read),
     ) in
     let front : length bs ≡ 40 + length (a .bits ++ a .padding) + length (s .after-seqs) =

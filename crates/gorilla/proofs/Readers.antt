@@ -1,5 +1,5 @@
 -- What a call of `read_bits` says of the readers of bit lists. Assumes nothing.
-use Prim.Native.Nat.{ℕ, zero, suc, _+_, _-_, _*_, _≤_}
+use Prim.Native.Nat.{ℕ, zero, suc, _+_, _-_, _≤_}
 use mathlib.Core.Path.{_≡_, refl, sym, ap, ap₂, _∙_}
 use mathlib.Core.List.{List, [], _∷_}
 use native.Mathlib.Omega.{arith}
@@ -18,41 +18,42 @@ use Rattle.bits.specs.declared.BitsRead.the-variants as rv
 use Rattle.bits.proofs.Answers.{given, short, pos-le}
 use Rattle.raw_bits.specs.BitList.{bitsOf}
 use Rattle.gorilla.specs.Inner.{shape}
-use Rattle.gorilla.specs.Parser.{Read, read, refused, takeOff, andThen}
+use Rattle.gorilla.specs.Parser.{Read, read, refused, takeBits, andThen}
 use Rattle.bits.specs.Inner.{bitsFrom}
 use Rattle.gorilla.specs.Reading.{cutNumber, countOnes, readCode, readCodes}
+use Rattle.gorilla.proofs.Taking.{one-bit}
 use Rattle.gorilla.proofs.Bridge.{take-at, take-short}
 
 module _ (s : List ℕ) (at : Place) (n : ℕ) (l : List ℕ) where
-  pub took : {v : ℕ} {q : Place} → toldRead (rv.Value v q) ≡ readRule s at n → takeOff l n 0 (bitsFrom s at) ≡ read v (bitsFrom s q)
+  pub took : {v : ℕ} {q : Place} → toldRead (rv.Value v q) ≡ readRule s at n → takeBits n l (bitsFrom s at) ≡ read v (bitsFrom s q)
   unfolding bitsFrom
   took h =
       let g = given s at n h in
       take-at l s n (posOf (length s) at) (g .within) ∙ ap₂ (λ (u p : ℕ). read u (drop p (bitsOf s))) (sym (g .value)) (sym (g .pos))
 
-  pub ended : toldRead rv.Short ≡ readRule s at n → takeOff l n 0 (bitsFrom s at) ≡ refused l
+  pub ended : toldRead rv.Short ≡ readRule s at n → takeBits n l (bitsFrom s at) ≡ refused l
   unfolding bitsFrom
   ended h = take-short l s n (posOf (length s) at) (pos-le (length s) at) (short s at n h)
 
 -- one bit of a prefix
 module _ (a i k n : ℕ) where
-  pub at-zero : (bs : List ℕ) {b : ℕ} {r : List ℕ} → takeOff [] 1 0 bs ≡ read b r → b ≡ 0 → countOnes a i (suc k) n bs ≡ read n r
-  unfolding takeOff countOnes
+  pub at-zero : (bs : List ℕ) {b : ℕ} {r : List ℕ} → takeBits 1 [] bs ≡ read b r → b ≡ 0 → countOnes a i (suc k) n bs ≡ read n r
+  unfolding takeBits countOnes
   at-zero [] h e = let z : _≡_ {A = ℕ} 0 1 = cc in absurd (omega arith)
-  at-zero (zero ∷ bs) h e = cc
-  at-zero (suc c ∷ bs) {b} {r} h e = let z : 0 * 2 + suc c ≡ b = cc in absurd (omega arith)
+  at-zero (zero ∷ bs) h e = let o = one-bit [] 0 bs in cc
+  at-zero (suc c ∷ bs) {b} {r} h e = let o = one-bit [] (suc c) bs in let z : suc c ≡ b = cc in absurd (omega arith)
 
-  pub at-one : (bs : List ℕ) {b : ℕ} {r : List ℕ} → takeOff [] 1 0 bs ≡ read b r → (b ≡ 0 → ⊥) → countOnes a i (suc k) n bs ≡ countOnes a i k (n + 1) r
-  unfolding takeOff countOnes
+  pub at-one : (bs : List ℕ) {b : ℕ} {r : List ℕ} → takeBits 1 [] bs ≡ read b r → (b ≡ 0 → ⊥) → countOnes a i (suc k) n bs ≡ countOnes a i k (n + 1) r
+  unfolding takeBits countOnes
   at-one [] h e = let z : _≡_ {A = ℕ} 0 1 = cc in absurd (omega arith)
-  at-one (zero ∷ bs) {b} {r} h e = let z : 0 * 2 + 0 ≡ b = cc in absurd (e (omega arith))
-  at-one (suc c ∷ bs) {b} {r} h e = let z : bs ≡ r = cc in ap (countOnes a i k (n + 1)) z
+  at-one (zero ∷ bs) {b} {r} h e = let o = one-bit [] 0 bs in let z : 0 ≡ b = cc in absurd (e (sym z))
+  at-one (suc c ∷ bs) {b} {r} h e = let o = one-bit [] (suc c) bs in let z : bs ≡ r = cc in ap (countOnes a i k (n + 1)) z
 
-  pub at-end : (bs : List ℕ) → takeOff [] 1 0 bs ≡ refused [] → countOnes a i (suc k) n bs ≡ refused (cutNumber n ∷ a ∷ i ∷ [])
-  unfolding takeOff countOnes
+  pub at-end : (bs : List ℕ) → takeBits 1 [] bs ≡ refused [] → countOnes a i (suc k) n bs ≡ refused (cutNumber n ∷ a ∷ i ∷ [])
+  unfolding takeBits countOnes
   at-end [] h = refl
-  at-end (zero ∷ bs) h = let z : _≡_ {A = ℕ} 0 1 = cc in absurd (omega arith)
-  at-end (suc c ∷ bs) h = let z : _≡_ {A = ℕ} 0 1 = cc in absurd (omega arith)
+  at-end (zero ∷ bs) h = let o = one-bit [] 0 bs in let z : _≡_ {A = ℕ} 0 1 = cc in absurd (omega arith)
+  at-end (suc c ∷ bs) h = let o = one-bit [] (suc c) bs in let z : _≡_ {A = ℕ} 0 1 = cc in absurd (omega arith)
 
 -- ---- a difference of w bits
 pub value-decoded : (v w : ℕ) {d : ℤ} → toldExtend (ev.Value d) ≡ extendRule v w → w ≤ 32 → d ≡ decoded w v
@@ -84,12 +85,12 @@ width-most (suc (suc (suc (suc (suc n))))) = omega arith
 
 -- ---- one code
 module _ (a i n : ℕ) (bs : List ℕ) where
-  pub code-read : {v : ℕ} {r q : List ℕ} → read n r ≡ countOnes a i 4 0 bs → takeOff (8 ∷ a ∷ i ∷ getD widths n 0 ∷ []) (getD widths n 0) 0 r ≡ read v q
+  pub code-read : {v : ℕ} {r q : List ℕ} → read n r ≡ countOnes a i 4 0 bs → takeBits (getD widths n 0) (8 ∷ a ∷ i ∷ getD widths n 0 ∷ []) r ≡ read v q
       → readCode a i bs ≡ read (decoded (getD widths n 0) v) q
   unfolding readCode
   code-read h k = rw (← h) (rw k)
 
-  pub code-short : {r : List ℕ} → read n r ≡ countOnes a i 4 0 bs → takeOff (8 ∷ a ∷ i ∷ getD widths n 0 ∷ []) (getD widths n 0) 0 r ≡ refused (8 ∷ a ∷ i ∷ getD widths n 0 ∷ [])
+  pub code-short : {r : List ℕ} → read n r ≡ countOnes a i 4 0 bs → takeBits (getD widths n 0) (8 ∷ a ∷ i ∷ getD widths n 0 ∷ []) r ≡ refused (8 ∷ a ∷ i ∷ getD widths n 0 ∷ [])
       → readCode a i bs ≡ refused (8 ∷ a ∷ i ∷ getD widths n 0 ∷ [])
   unfolding readCode
   code-short h k = rw (← h) (rw k)

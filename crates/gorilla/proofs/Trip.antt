@@ -22,7 +22,7 @@ use Rattle.gorilla.specs.Rows.{row, rowOf, decoded, strict}
 use Rattle.signed.proofs.Wrapping.{pattern-signed, signed-pattern, addS-subS, sub-add, sub-lt}
 use Rattle.signed.proofs.Widths.{two-halves, read-low, read-high}
 use Rattle.raw_bits.specs.BitList.{natBits}
-use Rattle.gorilla.specs.Parser.{read, takeOff, andThen}
+use Rattle.gorilla.specs.Parser.{read, takeBits, andThen}
 use Rattle.gorilla.specs.Format.{codeBits, codesBits, valuesBits, arrayBits}
 use Rattle.gorilla.specs.Reading.{countOnes, readCode, readCodes, valuesAfter, readValues, readArray}
 use Rattle.gorilla.proofs.Rows.{reads-back, mag-strict, strict-of}
@@ -54,12 +54,12 @@ module _ (a i : ℕ) where
 
   -- n ones, and the row's width w
   by-row : (w n : ℕ) (x : ℕ) (rest : List ℕ)
-      → andThen (takeOff (8 ∷ a ∷ i ∷ w ∷ []) w 0 (natBits w x ++ rest)) (λ v bs. read (decoded w v) bs) ≡ read (decoded w (x % 2 ^ w)) rest
-  by-row w n x rest = rw (take-nat (8 ∷ a ∷ i ∷ w ∷ []) w 0 x rest) (ap (λ (u : ℕ). read (decoded w u) rest) (omega arith))
+      → andThen (takeBits w (8 ∷ a ∷ i ∷ w ∷ []) (natBits w x ++ rest)) (λ v bs. read (decoded w v) bs) ≡ read (decoded w (x % 2 ^ w)) rest
+  by-row w n x rest = rw (take-nat (8 ∷ a ∷ i ∷ w ∷ []) w x rest)
 
   any-row : (d : ℤ) → ByRow (rowOf d)
-  unfolding ByRow readCode countOnes natBits takeOff
-  any-row = rows ByRow (λ x rest. refl) (by-row 7 1) (by-row 9 2) (by-row 12 3) (by-row 32 4)
+  unfolding ByRow readCode countOnes natBits
+  any-row = rows ByRow (by-row 0 0) (by-row 7 1) (by-row 9 2) (by-row 12 3) (by-row 32 4)
 
   pub read-code : (d : ℤ) (rest : List ℕ) → readCode a i (codeBits d ++ rest) ≡ read (sentOf d) rest
   unfolding codeBits ByRow sentOf

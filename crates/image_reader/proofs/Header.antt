@@ -11,13 +11,13 @@ use lib.ListN.{length, getD, drop}
 use Rattle.signed.specs.Signed.{pattern}
 use Rattle.raw_bits.proofs.Bits.{one-byte}
 use Rattle.raw_bits.specs.BitList.{bitsOf}
-use Rattle.gorilla.specs.Parser.{read, refused, takeOff}
+use Rattle.gorilla.specs.Parser.{read, refused, takeBits}
 use Rattle.gorilla.specs.Reading.{readPart, leCount, readPairs, readImage}
 use Rattle.gorilla.proofs.Bridge.{take-at, take-short}
 use Rattle.image_reader.specs.Inner.{readArrays, HeaderCount}
 
 -- one byte of the header
-byte-at : (l s : List ℕ) (j : ℕ) → j < length s → getD s j 0 < 256 → takeOff l 8 0 (drop (j * 8) (bitsOf s)) ≡ read (getD s j 0) (drop (j * 8 + 8) (bitsOf s))
+byte-at : (l s : List ℕ) (j : ℕ) → j < length s → getD s j 0 < 256 → takeBits 8 l (drop (j * 8) (bitsOf s)) ≡ read (getD s j 0) (drop (j * 8 + 8) (bitsOf s))
 byte-at l s j h b =
     take-at l s 8 (j * 8) (omega arith) ∙ ap (λ (u : ℕ). read u (drop (j * 8 + 8) (bitsOf s))) (one-byte s j b)
 

@@ -3,7 +3,7 @@ use mathlib.Core.Path.{refl}
 use Rattle.order.specs.First.{firstFrom, lastOr}
 use Rattle.raw_bits.specs.BitList.{natBits, bitsOf, natFrom, bytesOf, packed}
 use Rattle.gorilla.specs.Format.{codeBits, codesBits, valuesBits, arrayBits, leBytes, imageBytes}
-use Rattle.gorilla.specs.Parser.{takeOff}
+use Rattle.gorilla.specs.Parser.{takeBits}
 use Rattle.gorilla.specs.Reading.{cutNumber, countOnes, readCode, readCodes, valuesAfter, readValues, readArray, leCount, readPart, readPairs}
 use Rattle.gorilla.specs.Rows.{rowOf, strict}
 use Rattle.gorilla.specs.Wide.{wideAfter, wideIn, wideOf}
@@ -18,7 +18,7 @@ use Rattle.theorems.specs.Run.{step, ranTo}
 use Rattle.theorems.specs.Cases.{Cases}
 
 pub cases : Cases
-unfolding arraysRule roomRule imageBytes leBytes arrayBits valuesBits codesBits codeBits rowOf packed bytesOf natFrom natBits wideOf wideIn wideAfter strict ranTo step runOf firstFrom evens lastOr listed readPairs readPart leCount readArray readValues valuesAfter readCodes readCode countOnes cutNumber takeOff bitsOf digits decimal signedDecimal line lines entriesText refusedText listingOf
+unfolding arraysRule roomRule imageBytes leBytes arrayBits valuesBits codesBits codeBits rowOf packed bytesOf natFrom natBits wideOf wideIn wideAfter strict ranTo step runOf firstFrom evens lastOr listed readPairs readPart leCount readArray readValues valuesAfter readCodes readCode countOnes cutNumber takeBits bitsOf digits decimal signedDecimal line lines entriesText refusedText listingOf
 cases = record {
   extension = (refl, refl);
   P1 = ((refl, refl), refl);

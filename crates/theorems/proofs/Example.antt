@@ -8,7 +8,7 @@ use Rattle.order.specs.First.{firstFrom}
 use Rattle.tracker.specs.declared.LastRecorded.the-variants.{At}
 use Rattle.raw_bits.specs.BitList.{natBits, bitsOf, natFrom, bytesOf, packed}
 use Rattle.gorilla.specs.Format.{codeBits, codesBits, valuesBits, arrayBits, leBytes, imageBytes}
-use Rattle.gorilla.specs.Parser.{takeOff}
+use Rattle.gorilla.specs.Parser.{takeBits}
 use Rattle.gorilla.specs.Reading.{cutNumber, countOnes, readCode, readCodes, valuesAfter, readValues, readArray, leCount, readPart, readPairs}
 use Rattle.gorilla.specs.Rows.{rowOf, strict}
 use Rattle.gorilla.specs.Wide.{wideAfter, wideIn, wideOf}
@@ -34,5 +34,5 @@ runs : let w = ranTo begin (offer 100 0 ∷ reload ∷ offer 164 60 ∷ reload �
     × (w .state ≡ record { count = 2; capacity = 8192; «interval_secs» = 60; «last_recorded_ts» = At (record { 0 = pos 60 }) })
     × (take 3 (v .seqs) ≡ 0 ∷ 1 ∷ 3 ∷ [])
     × (take 3 (v .secs) ≡ pos 0 ∷ pos 2147483648 ∷ pos 3 ∷ [])
-unfolding offer reload begin step ranTo evens firstFrom arraysRule roomRule wideOf wideIn wideAfter strict natBits bitsOf natFrom bytesOf packed takeOff codeBits codesBits valuesBits arrayBits leBytes imageBytes rowOf cutNumber countOnes readCode readCodes valuesAfter readValues readArray leCount readPart readPairs
+unfolding offer reload begin step ranTo evens firstFrom arraysRule roomRule wideOf wideIn wideAfter strict natBits bitsOf natFrom bytesOf packed takeBits codeBits codesBits valuesBits arrayBits leBytes imageBytes rowOf cutNumber countOnes readCode readCodes valuesAfter readValues readArray leCount readPart readPairs
 runs = (refl, refl, refl, refl, refl)

@@ -14,7 +14,7 @@ use Rattle.bits.proofs.Answers.{given, too-wide}
 use Rattle.raw_bits.proofs.Bits.{bitsAt-lt}
 use Rattle.gorilla.specs.Array.{arrayNo}
 use Rattle.raw_bits.specs.BitList.{bitsOf}
-use Rattle.gorilla.specs.Parser.{read, takeOff}
+use Rattle.gorilla.specs.Parser.{read, takeBits}
 use Rattle.bits.specs.Inner.{bitsFrom}
 use Rattle.gorilla.specs.Reading.{readValues, readArray}
 use Rattle.gorilla.proofs.Readers.{took, ended}
@@ -48,10 +48,10 @@ v-of av = av .v .given .0 .0
 abbrev p-of : tie.After-v → Place
 p-of av = av .v .given .0 .1 .0
 
-count-is : (av : tie.After-v) → takeOff (4 ∷ a-of (av .before .before) ∷ []) 32 0 (bits-of (av .before .before)) ≡ read (v-of av) (bitsFrom (s-of (av .before .before)) (p-of av))
+count-is : (av : tie.After-v) → takeBits 32 (4 ∷ a-of (av .before .before) ∷ []) (bits-of (av .before .before)) ≡ read (v-of av) (bitsFrom (s-of (av .before .before)) (p-of av))
 count-is av =
     let ar = av .before .before in
-    ap (takeOff (4 ∷ a-of ar ∷ []) 32 0) (sym (here ar)) ∙ took (s-of ar) (at-of ar) 32 (4 ∷ a-of ar ∷ []) (ap toldRead (sym (av .v .given .1)) ∙ ar .read-from .ensures)
+    ap (takeBits 32 (4 ∷ a-of ar ∷ [])) (sym (here ar)) ∙ took (s-of ar) (at-of ar) 32 (4 ∷ a-of ar ∷ []) (ap toldRead (sym (av .v .given .1)) ∙ ar .read-from .ensures)
 
 -- it has 32 bits
 count-lt : (av : tie.After-v) → v-of av < 2 ^ 32
@@ -116,7 +116,7 @@ returns-5 : tie.Need-returns-5
 returns-5 c =
     let ar = c .before .before in (
       λ room agrees. sym (ap aligned (array-cut (a-of ar) room (bits-of ar)
-          (ap (takeOff (4 ∷ a-of ar ∷ []) 32 0) (sym (here ar)) ∙ ended (s-of ar) (at-of ar) 32 (4 ∷ a-of ar ∷ []) (ap toldRead (sym (c .enum-told2 .given .1)) ∙ ar .read-from .ensures)))),
+          (ap (takeBits 32 (4 ∷ a-of ar ∷ [])) (sym (here ar)) ∙ ended (s-of ar) (at-of ar) 32 (4 ∷ a-of ar ∷ []) (ap toldRead (sym (c .enum-told2 .given .1)) ∙ ar .read-from .ensures)))),
       tt,
     )
 

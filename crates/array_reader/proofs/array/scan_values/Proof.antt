@@ -13,7 +13,7 @@ use Rattle.bits.proofs.Answers.{given, too-wide}
 use Rattle.gorilla.specs.Array.{arrayNo}
 use Rattle.raw_bits.specs.BitList.{bitsOf}
 use Rattle.gorilla.specs.Inner.{shape}
-use Rattle.gorilla.specs.Parser.{read, takeOff}
+use Rattle.gorilla.specs.Parser.{read, takeBits}
 use Rattle.bits.specs.Inner.{bitsFrom}
 use Rattle.gorilla.specs.Reading.{readCodes}
 use Rattle.gorilla.proofs.Readers.{took, ended}
@@ -40,7 +40,7 @@ here-of ar = bitsFrom (s-of ar) ((st-of ar) .args .at)
 abbrev q-of : tie.After-v → Place
 q-of av = av .v .given .0 .1 .0
 
-first-is : (av : tie.After-v) → takeOff (5 ∷ a-of (av .before .before) ∷ []) 64 0 (here-of (av .before .before)) ≡ read (av .v .given .0 .0) (bitsFrom (s-of (av .before .before)) (q-of av))
+first-is : (av : tie.After-v) → takeBits 64 (5 ∷ a-of (av .before .before) ∷ []) (here-of (av .before .before)) ≡ read (av .v .given .0 .0) (bitsFrom (s-of (av .before .before)) (q-of av))
 first-is av =
     let ar = av .before .before in
     took (s-of ar) ((st-of ar) .args .at) 64 (5 ∷ a-of ar ∷ []) (ap toldRead (sym (av .v .given .1)) ∙ ar .read-from .ensures)
