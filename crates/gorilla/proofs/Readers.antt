@@ -64,17 +64,7 @@ pub none-decoded : (v w : ℕ) → toldExtend ev.Width ≡ extendRule v w → w 
 none-decoded v zero h k = refl
 none-decoded v (suc w) h k = let e = taken v (suc w) (omega arith) k in let z : _≡_ {A = ℕ} 0 1 = cc in absurd (omega arith)
 
--- ---- the count of ones is at most four, and its width at most 32
-ones-le : (a i k n m : ℕ) (bs r : List ℕ) → read m r ≡ countOnes a i k n bs → m ≤ n + k
-unfolding countOnes
-ones-le a i zero n m bs r h = let e : m ≡ n = cc in omega arith
-ones-le a i (suc k) n m [] r h = let z : _≡_ {A = ℕ} 0 1 = cc in absurd (omega arith)
-ones-le a i (suc k) n m (zero ∷ bs) r h = let e : m ≡ n = cc in omega arith
-ones-le a i (suc k) n m (suc b ∷ bs) r h = omega (arith, ones-le a i k (n + 1) m bs r h)
-
-pub ones-most : (a i m : ℕ) (bs r : List ℕ) → read m r ≡ countOnes a i 4 0 bs → m ≤ 4
-ones-most a i m bs r h = ones-le a i 4 0 m bs r h
-
+-- a width is at most 32
 pub width-most : (n : ℕ) → getD widths n 0 ≤ 32
 width-most zero = omega arith
 width-most (suc zero) = omega arith

@@ -169,11 +169,6 @@ sent-strict d = strict-row (lowBits ((rowOf d) .width) d) d
 strict-fits : (d : ℤ) → strict d ≡ true → SFits w64 d
 strict-fits d s = record { sfits = omega (arith, mag-strict d s) }
 
--- the value that d leads to
-reaches : (p e x : ℤ) → SFits w64 p → SFits w64 e → SFits w64 x → addS p (addS e (subS (subS x p) e)) ≡ x
-reaches p e x f g h =
-    ap (addS p) (addS-comm e (subS (subS x p) e) ∙ addS-subS (subS x p) e (subS-fits x p) g) ∙ addS-comm p (subS x p) ∙ addS-subS x p h f
-
 leads : (p e x : ℤ) → SFits w64 p → SFits w64 e → SFits w64 x → strict (subS (subS x p) e) ≡ true
     → addS e (sentOf (subS (subS x p) e)) ≡ subS x p
 leads p e x f g h s = ap (addS e) (sent-is (subS (subS x p) e) s) ∙ addS-comm e (subS (subS x p) e) ∙ addS-subS (subS x p) e (subS-fits x p) g

@@ -1,10 +1,10 @@
 -- Copying the front of a list over another.
-use mathlib.Core.Path.{_≡_, sym, _∙_}
+use mathlib.Core.Path.{_≡_, sym}
 use mathlib.Core.List.{List, [], _∷_, append-assoc}
-use Prim.Native.Nat.{ℕ, suc, _+_, _-_, _≤_, _<_}
+use Prim.Native.Nat.{ℕ, suc, _+_, _-_, _<_}
 use native.Mathlib.Numerals.{add-one}
 use native.Mathlib.Omega.{arith}
-use lib.ListN.{length, getD, take, drop, set, length-append, length-drop}
+use lib.ListN.{length, getD, take, drop, set}
 use lib.Seq.{drop-cons, set-at, take-suc, length-take-le}
 use Rattle.told.specs.Over.{over}
 
@@ -15,6 +15,3 @@ module _ {A : Type 0} (d : A) (l xs : List A) where
       let q : length (take (suc i) l) ≡ suc i = length-take-le (suc i) l h in
       rw (add-one, p, q, drop-cons xs i d k, set-at (take i l) (getD xs i d) (drop (suc i) xs) (getD l i d) i p, take-suc l i d h)
       (sym (append-assoc (take i l) (getD l i d ∷ []) (drop (suc i) xs)))
-
-  pub copy-long : (i : ℕ) → i ≤ length l → i ≤ length xs → length (over (take i l) xs) ≡ length xs
-  copy-long i h k = length-append (take i l) (drop (length (take i l)) xs) ∙ omega (arith, length-take-le i l h, length-drop (length (take i l)) xs)

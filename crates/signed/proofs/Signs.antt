@@ -1,5 +1,5 @@
 -- Laws of signed numbers that several proofs cite. Assumes nothing.
-use mathlib.Core.Path.{_≡_, refl, sym, ap, _∙_, subst}
+use mathlib.Core.Path.{_≡_, refl, sym, subst}
 use mathlib.Core.Bool.{true, false}
 use Prim.Native.Nat.{ℕ, _+_, _-_, _^_, _%_, _≤_, _<_}
 use native.Mathlib.Omega.{arith}
@@ -8,8 +8,8 @@ use lib.Dec.{T}
 use lib.IntN.{ℤ, pos, negsuc, natAbs}
 use lib.Signed.{leZ, nonNeg}
 use mir.Syntax.{w64}
-use mir.Val.{Fits, SFits, toZ, ofZ}
-use mir.Facts.{toZ-pos, toZ-ofZ}
+use mir.Val.{Fits, SFits, toZ}
+use mir.Facts.{toZ-pos}
 use Rattle.signed.specs.Signed.{signed, pattern, subW}
 
 -- no test is both true and false
@@ -41,12 +41,3 @@ flip n l h = toZ-pos w64 (omega arith)
 -- the difference is the one number below 2^64 that b added to wraps to a
 pub sub-is : (r a b : ℕ) → r < 2 ^ 64 → b < 2 ^ 64 → (r + b) % 2 ^ 64 ≡ a → r ≡ subW a b
 sub-is r a b hr hb e = omega arith
-
--- a negative number's magnitude
-pub below-0-abs : (z : ℤ) → SFits w64 z → leZ (pos 0) z ≡ false → natAbs z ≡ 2 ^ 64 - pattern z
-below-0-abs (pos n) f e = omega (arith, leb-false)
-below-0-abs (negsuc n) f e = omega (arith, f .sfits)
-
--- numbers of the same bits are the same
-pub same-bits : (a b : ℤ) → SFits w64 a → SFits w64 b → ofZ w64 a ≡ ofZ w64 b → a ≡ b
-same-bits a b f g e = sym (toZ-ofZ f) ∙ ap (toZ w64) e ∙ toZ-ofZ g

@@ -1,11 +1,8 @@
 -- Two's complement: round trips, a sum undoes a difference, and exactness where nothing wraps. Assumes nothing.
-use mathlib.Core.Path.{_≡_, refl, sym, ap, _∙_}
-use mathlib.Core.Bool.{Bool, true, false, cond}
-use Prim.Native.Nat.{ℕ, zero, suc, _-_, _^_, _≤_, _<_}
+use mathlib.Core.Path.{_≡_, ap, _∙_}
+use Prim.Native.Nat.{ℕ, _-_, _^_, _<_}
 use native.Mathlib.Omega.{arith}
-use borrow.Author.Tests.{ltb-true, ltb-false}
-use lib.Dec.{ltb}
-use lib.IntN.{ℤ, pos, negsuc, subℕ, _-ℤ_}
+use lib.IntN.{ℤ, pos, negsuc}
 use mir.Syntax.{w64}
 use mir.Val.{SFits}
 use mir.Facts.{toZ-ofZ, ofZ-toZ}
@@ -37,22 +34,3 @@ pub addS-subS : (a b : ℤ) → SFits w64 a → SFits w64 b → addS (subS a b) 
 addS-subS a b f g =
     ap (λ (n : ℕ). signed (addW n (pattern b))) (pattern-signed (subW (pattern a) (pattern b)) (sub-lt (pattern a) (pattern b)))
     ∙ ap signed (add-sub (pattern a) (pattern b) (pattern-lt a f) (pattern-lt b g)) ∙ signed-pattern a f
-
--- ---- where nothing wraps the difference is the difference
-pattern-subℕ : (a b : ℕ) → a < 2 ^ 64 → b ≤ 2 ^ 64 → pattern (subℕ a b) ≡ subW a b
-pattern-subℕ a b h k = go (ltb a b) refl
-  where
-    go : (t : Bool) → ltb a b ≡ t → pattern (cond t (negsuc (b - suc a)) (pos (a - b))) ≡ subW a b
-    go true e = omega (arith, ltb-true)
-    go false e = omega (arith, ltb-false)
-
-pattern-sub : (a b : ℤ) → SFits w64 a → SFits w64 b → SFits w64 (a -ℤ b) → subW (pattern a) (pattern b) ≡ pattern (a -ℤ b)
-pattern-sub (pos a) (pos zero) f g e = omega (arith, f .sfits)
-pattern-sub (pos a) (pos (suc b)) f g e = sym (pattern-subℕ a (suc b) (omega (arith, f .sfits)) (omega (arith, g .sfits)))
-pattern-sub (pos a) (negsuc b) f g e = omega (arith, e .sfits, g .sfits)
-pattern-sub (negsuc a) (pos zero) f g e = omega (arith, f .sfits, pattern-subℕ 0 (suc a) (omega arith) (omega (arith, f .sfits)))
-pattern-sub (negsuc a) (pos (suc b)) f g e = omega (arith, e .sfits, f .sfits)
-pattern-sub (negsuc a) (negsuc b) f g e = omega (arith, f .sfits, g .sfits, pattern-subℕ (suc b) (suc a) (omega (arith, g .sfits)) (omega (arith, f .sfits)))
-
-pub subS-exact : (a b : ℤ) → SFits w64 a → SFits w64 b → SFits w64 (a -ℤ b) → subS a b ≡ a -ℤ b
-subS-exact a b f g e = ap signed (pattern-sub a b f g e) ∙ signed-pattern (a -ℤ b) e
