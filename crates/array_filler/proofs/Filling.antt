@@ -12,11 +12,10 @@ use lib.Seq.{sets, sets-eq}
 use Rattle.told.specs.Over.{over}
 use Rattle.bits.specs.declared.Place.{Place}
 use Rattle.signed.proofs.Signs.{never}
-use Rattle.gorilla.specs.Inner.{isRead}
+use Rattle.gorilla.specs.Inner.{isRead, followed}
 use Rattle.gorilla.specs.Parser.{Read, read, refused, andThen, readOr}
 use Rattle.bits.specs.Inner.{bitsFrom}
 use Rattle.gorilla.specs.Reading.{readCode, readCodes, valuesAfter}
-use Rattle.gorilla.specs.Steps.{followed}
 use Rattle.gorilla.specs.declared.Track.{Track}
 use Rattle.gorilla.proofs.Readers.{codes-next}
 use Rattle.array_reader.specs.Inner.{arrayAt, passedAt}

@@ -5,11 +5,10 @@ use mathlib.Core.Bool.{true}
 use mathlib.Core.List.{List, _++_}
 use lib.IntN.{ℤ}
 use lib.ListN.{length, replicate}
-use Rattle.gorilla.specs.Inner.{isRead}
+use Rattle.gorilla.specs.Inner.{isRead, followed}
 use Rattle.gorilla.specs.Parser.{read}
 use Rattle.bits.specs.Inner.{bitsFrom}
 use Rattle.gorilla.specs.Reading.{readCode}
-use Rattle.gorilla.specs.Steps.{followed}
 use Rattle.array_filler.specs.declared.fill.Cursor.{Cursor}
 
 -- the bits that a cursor has still to read: the zeros that were found already, and those at its place

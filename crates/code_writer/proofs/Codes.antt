@@ -9,7 +9,7 @@ use lib.IntN.{ℤ, pos}
 use Rattle.signed.specs.Signed.{pattern, subS}
 use Rattle.gorilla.specs.declared.Track.{Track}
 use Rattle.gorilla.specs.declared.Coded.{Coded}
-use Rattle.gorilla.specs.Steps.{advanced}
+use Rattle.gorilla.specs.Inner.{advanced}
 use Rattle.raw_bits.specs.BitList.{natBits}
 use Rattle.raw_bits.specs.Inner.{putList}
 use Rattle.gorilla.specs.Format.{codeBits, codesBits, valuesBits, arrayBits}

@@ -12,7 +12,7 @@ use mir.Val.{SFits}
 use mir.Facts.{fits-ofZ}
 use Rattle.signed.specs.Signed.{signed, pattern, subW, subS, addS}
 use Rattle.gorilla.specs.declared.Track.{Track}
-use Rattle.gorilla.specs.Steps.{advanced}
+use Rattle.gorilla.specs.Inner.{advanced}
 use Rattle.raw_bits.specs.BitList.{natBits}
 use Rattle.gorilla.specs.Format.{codesBits}
 use Rattle.gorilla.proofs.Trip.{addS-fits, subS-addS}

@@ -1,5 +1,4 @@
 pub mod Rows
-pub mod Steps
 pub mod Format
 pub mod Wide
 pub mod Parser

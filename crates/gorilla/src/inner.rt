@@ -3,7 +3,7 @@ ghost use mathlib.Core.Path.{_≡_};
 ghost use Prim.Native.Nat.{_≤_, _<_, _^_};
 ghost use lib.ListN.{getD};
 ghost use Rattle.gorilla.specs.Rows.{widths, rowOf, decoded, strict};
-ghost use Rattle.gorilla.specs.Steps.{advanced, followed};
+ghost use Rattle.gorilla.specs.Inner.{advanced, followed};
 use crate::Coded;
 use crate::Row;
 use crate::Track;

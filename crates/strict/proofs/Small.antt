@@ -14,7 +14,7 @@ use Rattle.told.specs.Told.{gave}
 use Rattle.signed.specs.Signed.{signed, pattern, subW, subS}
 use Rattle.gorilla.specs.declared.Track.{Track}
 use Rattle.gorilla.specs.Rows.{strict}
-use Rattle.gorilla.specs.Steps.{advanced}
+use Rattle.gorilla.specs.Inner.{advanced}
 use Rattle.gorilla.specs.Wide.{wideAfter, wideIn}
 use Rattle.strict.proofs.Wide.{wide-last, wide-next}
 

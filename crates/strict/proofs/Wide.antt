@@ -14,7 +14,7 @@ use Rattle.signed.specs.Signed.{signed}
 use Rattle.gorilla.specs.declared.Track.{Track}
 use Rattle.gorilla.specs.declared.Coded.{Coded}
 use Rattle.gorilla.specs.Rows.{strict}
-use Rattle.gorilla.specs.Steps.{advanced}
+use Rattle.gorilla.specs.Inner.{advanced}
 use Rattle.gorilla.specs.Wide.{wideAfter, wideIn, wideOf}
 
 pub not-true : (b c : Bool) → b ≡ c → not b ≡ true → c ≡ false

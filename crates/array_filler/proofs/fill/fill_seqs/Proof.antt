@@ -10,9 +10,8 @@ use mir.Syntax.{w64}
 use mir.Val.{SFits}
 use mir.Facts.{toZ-ofZ}
 use Rattle.signed.specs.Signed.{pattern}
-use Rattle.gorilla.specs.Inner.{isRead}
+use Rattle.gorilla.specs.Inner.{isRead, followed}
 use Rattle.gorilla.specs.Reading.{readCodes, valuesAfter}
-use Rattle.gorilla.specs.Steps.{followed}
 use Rattle.gorilla.specs.declared.Track.{Track}
 use Rattle.array_filler.specs.Inner.{ahead, Stepped}
 use Rattle.array_filler.specs.declared.fill.Cursor.{Cursor}
