@@ -4,7 +4,6 @@ use Prim.Native.Nat.{ℕ, _+_}
 use mathlib.Core.Path.{_≡_}
 use mathlib.Core.List.{List, [], _∷_, _++_}
 use lib.IntN.{ℤ}
-use lib.ListN.{take}
 use Rattle.told.specs.Told.{Told, gave, refused}
 use Rattle.tracker.specs.Refusal.{told}
 use Rattle.tracker.specs.declared.Refusal.{Refusal}
@@ -12,8 +11,7 @@ use Rattle.tracker.specs.declared.TrackedSeq.{TrackedSeq}
 use Rattle.tracker.specs.declared.SequenceTracker.{SequenceTracker}
 use Rattle.offers.specs.Whole.{Table, whole, Left, leaving}
 use Rattle.offers.specs.Offer.{Outcome, offerTo, offeredTo}
-use Rattle.log.specs.Log.{Log, done, stopped, noneYet, runOf, logOf}
-use Rattle.log.specs.Pairs.{recordsOf}
+use Rattle.log.specs.Log.{Log, done, stopped, runOf, logOf}
 use Rattle.log.specs.declared.Tally.{Tally}
 use Rattle.log.specs.declared.inner.Phase.{Phase}
 use Rattle.log.specs.declared.inner.Phase.the-variants.{Going, Bad, Stopped}
@@ -72,7 +70,3 @@ Begins w n r seqs secs = (leftBy r seqs secs ≡ logOf w []) × (r .end ≡ endO
 -- `step`: one record more
 abbrev pub Steps : Progress → List ℕ → List ℤ → TrackedSeq → Progress → List ℕ → List ℤ → Type 0
 Steps p seqs secs pair r seqs′ secs′ = (leftBy r seqs′ secs′ ≡ runOf (standing p seqs secs) (p .tally) (total (p .tally)) (pair ∷ [])) × (r .end ≡ endOf (r .phase) (p .end))
-
--- `pairs_good`: the first n pairs of two lists, on a good table
-abbrev pub frontOf : Table → ℕ → List ℕ → List ℤ → Left (Told Log)
-frontOf w n seqs secs = runOf w noneYet 0 (recordsOf (take n seqs) (take n secs))

@@ -3,11 +3,10 @@ ghost use Rattle.offers.specs.Whole.{whole, Leaves};
 ghost use Rattle.log.specs.Log.{toldLog};
 ghost use Rattle.log.specs.Pairs.{pairsLogOf, extendOf};
 use log::Logged;
+use pair_walk::inner::pairs_good;
 use tracker::Checked;
 use tracker::SequenceTracker;
 use tracker::check;
-
-mod lists; // lists.rt: the pairs of two lists, on a good table
 
 // Offers records, the sequences of which stand in one list and the seconds in another of the same length, in order, up to the
 // first refusal. The table is checked once.
@@ -27,7 +26,7 @@ pub fn offer_pairs(
         return Logged::LengthsDiffer;
     }
     match check(table, seqs, secs) {
-        Checked::Good => lists::pairs_good(table, seqs, secs, from_seqs, from_secs, n),
+        Checked::Good => pairs_good(table, seqs, secs, from_seqs, from_secs, n),
         Checked::Refused(why) => Logged::Refused(why),
     }
 }
@@ -48,7 +47,7 @@ pub fn extend_from(
     let n = other.count;
     match check(table, seqs, secs) {
         Checked::Good => match check(other, other_seqs, other_secs) {
-            Checked::Good => lists::pairs_good(table, seqs, secs, other_seqs, other_secs, n),
+            Checked::Good => pairs_good(table, seqs, secs, other_seqs, other_secs, n),
             Checked::Refused(why) => Logged::OtherRefused(why),
         },
         Checked::Refused(why) => Logged::OwnRefused(why),

@@ -1,5 +1,4 @@
 -- Laws that belong to no one function.
-pub mod Bound
 pub mod Place
 pub mod Laws
 pub mod Unique

@@ -1,4 +1,4 @@
--- Among keys that do not drop, the boundary that a binary search finds tells the place that answers.
+-- Among keys that do not drop, the boundary that the search finds tells the place that answers.
 use mathlib.Core.Path.{_≡_, refl}
 use mathlib.Core.Logic.{⊎-elim}
 use mathlib.Core.Bool.{Bool, true, false, not, and-false, true≢false, false≢true}
@@ -15,8 +15,8 @@ use Rattle.order.specs.Order.{drops}
 use Rattle.order.proofs.Bools.{below-or}
 use Rattle.order.proofs.First.{first-is}
 use Rattle.order.proofs.Order.{Order, rises}
+use Rattle.search.specs.Inner.{Boundary}
 use Rattle.lookup.specs.Find.{smaller, greater, equal, place}
-use Rattle.lookup.specs.Inner.{Boundary, Falls}
 use Rattle.lookup.specs.declared.FindOption.{FindOption}
 use Rattle.lookup.specs.declared.FindOption.the-variants.{RoundUp, RoundDown}
 
@@ -49,14 +49,11 @@ last-none t none zero out = refl
 last-none t none (suc k) out = rw (out k (omega arith)) (last-none t none k (λ j l. out j (omega arith)))
 
 module _ {K : Type 0} (lt : K → K → Bool) (O : Order lt) (d : K) (keys : List K) (n : ℕ) (sorted : (j : ℕ) → j < n → drops lt d keys j ≡ false) where
-  -- the keys that are smaller come first, and those that are greater last
-  pub falls : (x : K) → Falls (smaller lt d keys x) n
-  falls x i j h l e = O .le-lt (getD keys i d) (getD keys j d) x (rises lt O d keys n sorted i j h l) e
-
+  -- the keys that are greater come last
   climbs : (x : K) (i j : ℕ) → i ≤ j → j < n → greater lt d keys x i ≡ true → greater lt d keys x j ≡ true
   climbs x i j h l e = O .lt-le x (getD keys i d) (getD keys j d) e (rises lt O d keys n sorted i j h l)
 
-  module _ (x : K) (lo : ℕ) (b : Boundary (smaller lt d keys x) n lo) where
+  module _ (x : K) (lo : ℕ) (b : Boundary lt d keys x n lo) where
     before : (j : ℕ) → j < lo → equal lt d keys x j ≡ false
     before j l = rw (b .under j l)
 

@@ -1,4 +1,3 @@
 pub mod Find
 pub mod Found
-pub mod Inner
 pub mod Laws

@@ -1,3 +1,3 @@
-// What the crates above use on a table that they have checked: the search for the position that answers.
+// What the crates above use on a table that they have checked: the position that answers.
 pub mod secs;
 pub mod seqs;

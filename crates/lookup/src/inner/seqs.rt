@@ -1,32 +1,14 @@
-// The search among the first n sequences of a good table, which do not drop.
+// The position among the first n sequences of a good table, which do not drop.
 ghost use mathlib.Core.Path.{_≡_};
 ghost use Prim.Native.Nat.{_≤_};
 ghost use lib.Dec.{ltb};
 ghost use lib.ListN.{length};
 ghost use Rattle.order.specs.Order.{drops};
 ghost use Rattle.order.specs.Inner.{NoneBelow};
-ghost use Rattle.lookup.specs.Find.{smaller, place};
-ghost use Rattle.lookup.specs.Inner.{Boundary, Falls};
+ghost use Rattle.lookup.specs.Find.{place};
 use crate::FindOption;
+use search::inner::seqs::lower;
 use tracker::Seq;
-
-// The first sequence that is not below x, or n.
-pub fn lower(seqs: &[u64], n: usize, x: u64) -> usize
-    requires { ⌜ (n ≤ length (now seqs)) × Falls (smaller ltb 0 (now seqs) x) n ⌝ }
-    ensures { λ r. ⌜ Boundary (smaller ltb 0 (now (seqs .entry)) x) n r ⌝ }
-{
-    let mut lo = 0;
-    let mut hi = n;
-    while lo < hi {
-        let mid = lo + (hi - lo) / 2;
-        if seqs[mid] < x {
-            lo = mid + 1;
-        } else {
-            hi = mid;
-        }
-    }
-    lo
-}
 
 // The position that answers, or n.
 pub fn place(seqs: &[u64], n: usize, seq: Seq, find_opt: FindOption) -> usize

@@ -12,7 +12,7 @@ use Rattle.order.proofs.Order.{int-order, round}
 use mir.Syntax.{w64}
 use mir.Val.{toZ, ofZ}
 use Rattle.lookup.specs.Find.{greater}
-use Rattle.lookup.proofs.Place.{at-most, above, falls, place-equal, place-up, place-down, place-none}
+use Rattle.lookup.proofs.Place.{at-most, above, place-equal, place-up, place-down, place-none}
 use Rattle.lookup.proofs.inner.secs.place.Statement.{statement}
 use Rattle.lookup.proofs.inner.secs.place.Tie as tie
 
@@ -20,7 +20,7 @@ whole : (c : tie.After-struct-told) → let x = c .before .args .ts .0 in toZ w6
 whole c = search needs
 
 lower-requires : tie.Need-lower-requires
-lower-requires c κs = (c .before .pre .0, falls ltZ int-order (pos 0) (c .before .args .secs .now) _ (c .before .pre .1) (toZ w64 (ofZ w64 (c .before .args .ts .0))))
+lower-requires c κs = search needs
 
 mul-if2 : tie.Need-mul-if2
 mul-if2 c = search needs

@@ -9,12 +9,12 @@ use Prim.Native.Nat.{_<_}
 use lib.Dec.{ltb}
 use Rattle.order.proofs.Order.{nat-order}
 use Rattle.lookup.specs.Find.{greater}
-use Rattle.lookup.proofs.Place.{falls, place-equal, place-up, place-down, place-none}
+use Rattle.lookup.proofs.Place.{place-equal, place-up, place-down, place-none}
 use Rattle.lookup.proofs.inner.seqs.place.Statement.{statement}
 use Rattle.lookup.proofs.inner.seqs.place.Tie as tie
 
 lower-requires : tie.Need-lower-requires
-lower-requires c κs = (c .before .pre .0, falls ltb nat-order 0 (c .before .args .seqs .now) _ (c .before .pre .1) (c .before .args .seq .0))
+lower-requires c κs = search needs
 
 mul-if2 : tie.Need-mul-if2
 mul-if2 c = search needs

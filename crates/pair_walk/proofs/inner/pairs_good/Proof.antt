@@ -5,12 +5,12 @@ use native.Mathlib.Omega.{arith}
 use lib.ListN.{length, take}
 use Rattle.offers.specs.Whole.{whole}
 use Rattle.log.specs.Pairs.{recordsOf}
-use Rattle.log.specs.Inner.{frontOf}
+use Rattle.pair_walk.specs.Inner.{frontOf}
 use Rattle.log.proofs.Run.{Upto, started-as, live, in-list, next, ended}
-use Rattle.log_pairs.proofs.Records.{front-length, front-at}
+use Rattle.pair_walk.proofs.Records.{front-length, front-at}
 use Rattle.log.specs.declared.inner.Progress.{Progress}
-use Rattle.log_pairs.proofs.lists.pairs_good.Statement.{statement}
-use Rattle.log_pairs.proofs.lists.pairs_good.Tie as tie
+use Rattle.pair_walk.proofs.inner.pairs_good.Statement.{statement}
+use Rattle.pair_walk.proofs.inner.pairs_good.Tie as tie
 
 abbrev Inv-loop : tie.InvT-loop
 Inv-loop seqs₀ secs₀ from-seqs from-secs n p₀ i₀ seqs secs p i =

@@ -2,19 +2,19 @@ use Prim.Native.Nat.{_-_}
 use native.Mathlib.Omega.{arith}
 use borrow.Author.Tests.{lt-ltb, le-ltb}
 use lib.Dec.{ltb}
-use Rattle.lookup.specs.Find.{smaller}
-use Rattle.lookup.proofs.Bound.{Bracket, start, up, down, finish}
-use Rattle.lookup.proofs.inner.seqs.lower.Statement.{statement}
-use Rattle.lookup.proofs.inner.seqs.lower.Tie as tie
+use Rattle.order.proofs.Order.{nat-order}
+use Rattle.search.proofs.Bound.{Bracket, start, up, down, finish}
+use Rattle.search.proofs.inner.seqs.lower.Statement.{statement}
+use Rattle.search.proofs.inner.seqs.lower.Tie as tie
 
 abbrev Inv-loop : tie.InvT-loop
-Inv-loop seqs n x lo₀ hi₀ lo hi = Bracket (smaller ltb 0 seqs x) n lo hi
+Inv-loop seqs n x lo₀ hi₀ lo hi = Bracket ltb 0 seqs x n lo hi
 
 abbrev μ-loop : tie.MeasureT-loop
 μ-loop seqs n x lo₀ hi₀ lo hi = hi - lo
 
 loop-holds : tie.Need-loop-holds Inv-loop μ-loop
-loop-holds c = start _ _
+loop-holds c = start _ _ _ _ _
 
 sub-mid : tie.Need-sub-mid Inv-loop μ-loop
 sub-mid c = omega arith
@@ -35,16 +35,16 @@ loop-less : tie.Need-loop-less Inv-loop μ-loop
 loop-less c = omega arith
 
 loop-again : tie.Need-loop-again Inv-loop μ-loop
-loop-again c = up _ _ (c .before .before .before .before .pre .1) _ _ (c .before .before .before .loop .inv) _ (omega arith) (omega arith) (lt-ltb _ _ (c .if1 .taken))
+loop-again c = up _ _ _ _ _ _ _ (c .before .before .before .loop .inv) nat-order (c .before .before .before .before .pre .1) _ (omega arith) (omega arith) (lt-ltb _ _ (c .if1 .taken))
 
 loop-less-2 : tie.Need-loop-less-2 Inv-loop μ-loop
 loop-less-2 c = omega arith
 
 loop-again-2 : tie.Need-loop-again-2 Inv-loop μ-loop
-loop-again-2 c = down _ _ (c .before .before .before .before .pre .1) _ _ (c .before .before .before .loop .inv) _ (omega arith) (omega arith) (le-ltb _ _ (c .if1 .left))
+loop-again-2 c = down _ _ _ _ _ _ _ (c .before .before .before .loop .inv) nat-order (c .before .before .before .before .pre .1) _ (omega arith) (omega arith) (le-ltb _ _ (c .if1 .left))
 
 returns : tie.Need-returns Inv-loop μ-loop
-returns c = finish _ _ _ _ (c .before .loop .inv) (c .loop-test .left)
+returns c = finish _ _ _ _ _ _ _ (c .before .loop .inv) (c .loop-test .left)
 
 pub lower-spec : {M : Type 1} → statement M
 lower-spec =

@@ -8,7 +8,7 @@ ghost use Rattle.tracker.specs.Table.{checkOf};
 ghost use Rattle.offers.specs.Whole.{whole, Leaves};
 ghost use Rattle.log.specs.Log.{toldLog};
 ghost use Rattle.log.specs.Pairs.{pairOf};
-ghost use Rattle.log.specs.Inner.{frontOf};
+ghost use Rattle.pair_walk.specs.Inner.{frontOf};
 use log::Logged;
 use log::Tally;
 use log::inner as steps;
@@ -28,7 +28,7 @@ fn pair_at(seqs: &[u64], secs: &[i64], i: usize) -> TrackedSeq
 }
 
 // The first n pairs of two lists.
-pub(crate) fn pairs_good(
+pub fn pairs_good(
     table: SequenceTracker,
     seqs: &mut [u64],
     secs: &mut [i64],
