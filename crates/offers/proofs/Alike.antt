@@ -14,7 +14,7 @@ use Rattle.tracker.specs.declared.Second.{Second}
 use Rattle.tracker.specs.declared.SequenceTracker.{SequenceTracker}
 use Rattle.tracker.proofs.Kept.{kept-at, check-kept}
 use Rattle.offers.specs.Whole.{whole}
-use Rattle.offers.specs.Keep.{keptWith}
+use Rattle.keeping.specs.Keep.{keptWith}
 use Rattle.offers.specs.Offer.{Outcome, recorded, skipped, lowSeq, offerTo, offeredTo}
 use Rattle.offers.proofs.Preserved.{taken, recorded-seqs, recorded-secs, same-lengths}
 

@@ -1,6 +1,4 @@
 -- Laws that belong to no one function.
-pub mod Thinned
-mod Halve
 pub mod Difference
 pub mod Rise
 pub mod Preserved

@@ -16,9 +16,9 @@ use Rattle.tracker.specs.declared.SequenceTracker.{SequenceTracker}
 use Rattle.order.proofs.Bools.{below-or}
 use Rattle.tracker.proofs.Good.{Agreed, fine, count-seqs, count-secs}
 use Rattle.offers.specs.Whole.{whole}
-use Rattle.offers.specs.Keep.{appended, thinned, countWith}
+use Rattle.keeping.specs.Keep.{appended, thinned, countWith}
 use Rattle.offers.specs.Offer.{recorded, offerTo, offeredTo}
-use Rattle.offers.proofs.Thinned.{getD-evens, appended-new, thinned-not, thinned-evens}
+use Rattle.keeping.proofs.Thinned.{getD-evens, appended-new, thinned-not, thinned-evens}
 use Rattle.offers.proofs.Preserved.{taken, recorded-seqs, recorded-secs, recorded-count}
 
 -- of n elements and one more the last that is kept is the new one, where an overflow comes at an even n

@@ -12,8 +12,8 @@ use Rattle.told.specs.Over.{over}
 use Rattle.order.specs.Order.{drops}
 use Rattle.order.proofs.Bools.{below-or}
 use Rattle.order.proofs.Order.{Order, rises, itself}
-use Rattle.offers.specs.Keep.{evens, appended, thinned, countWith}
-use Rattle.offers.proofs.Thinned.{getD-evens, length-evens, appended-length, appended-old, appended-new, thinned-not, thinned-evens}
+use Rattle.keeping.specs.Keep.{evens, appended, thinned, countWith}
+use Rattle.keeping.proofs.Thinned.{getD-evens, length-evens, appended-length, appended-old, appended-new, thinned-not, thinned-evens}
 
 -- the array keeps its length
 pub over-length : {A : Type 0} (l xs : List A) → length l ≤ length xs → length (over l xs) ≡ length xs

@@ -1,3 +1,2 @@
-pub mod Keep
 pub mod Whole
 pub mod Offer

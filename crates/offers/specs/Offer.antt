@@ -15,7 +15,7 @@ use Rattle.tracker.specs.declared.Second.{Second}
 use Rattle.tracker.specs.declared.SequenceTracker.{SequenceTracker}
 use Rattle.tracker.specs.declared.LastRecorded.{LastRecorded}
 use Rattle.tracker.specs.declared.LastRecorded.the-variants.{Never, At}
-use Rattle.offers.specs.Keep.{keptWith}
+use Rattle.keeping.specs.Keep.{keptWith}
 use Rattle.offers.specs.Whole.{Table, whole, checkIn, Left, leaving}
 use Rattle.offers.specs.declared.Offered.{Offered}
 use Rattle.offers.specs.declared.Offered.the-variants.{Recorded, Skipped, Refused}

@@ -9,7 +9,6 @@ use tracker::SequenceTracker;
 use tracker::check;
 
 pub mod inner;
-mod keep;
 mod steps;
 
 pub enum Offered {

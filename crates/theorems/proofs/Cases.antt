@@ -7,7 +7,7 @@ use Rattle.gorilla.specs.Parser.{takeBits}
 use Rattle.gorilla.specs.Reading.{cutNumber, countOnes, readCode, readCodes, valuesAfter, readValues, readArray, leCount, readPart, readPairs}
 use Rattle.gorilla.specs.Rows.{rowOf, strict}
 use Rattle.gorilla.specs.Wide.{wideAfter, wideIn, wideOf}
-use Rattle.offers.specs.Keep.{evens}
+use Rattle.keeping.specs.Keep.{evens}
 use Rattle.log.specs.Log.{runOf}
 use Rattle.encoder.specs.Encode.{arraysRule, roomRule}
 use Rattle.decoder.specs.Decode.{listed}

@@ -12,7 +12,7 @@ use Rattle.gorilla.specs.Parser.{takeBits}
 use Rattle.gorilla.specs.Reading.{cutNumber, countOnes, readCode, readCodes, valuesAfter, readValues, readArray, leCount, readPart, readPairs}
 use Rattle.gorilla.specs.Rows.{rowOf, strict}
 use Rattle.gorilla.specs.Wide.{wideAfter, wideIn, wideOf}
-use Rattle.offers.specs.Keep.{evens}
+use Rattle.keeping.specs.Keep.{evens}
 use Rattle.encoder.specs.Encode.{arraysRule, roomRule}
 use Rattle.offers.specs.Whole.{Table}
 use Rattle.theorems.specs.Run.{new, Event, offered, reloaded, step, ranTo}

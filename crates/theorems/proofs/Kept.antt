@@ -13,9 +13,9 @@ use mir.Syntax.{w64}
 use mir.Val.{SFits}
 use Rattle.told.specs.Over.{over}
 use Rattle.limits.specs.Domain.{outside}
-use Rattle.offers.specs.Keep.{appended, thinned, countWith}
+use Rattle.keeping.specs.Keep.{appended, thinned, countWith}
 use Rattle.offers.proofs.Difference.{inside-mag}
-use Rattle.offers.proofs.Thinned.{appended-old, appended-new}
+use Rattle.keeping.proofs.Thinned.{appended-old, appended-new}
 use Rattle.offers.proofs.Rise.{selected}
 
 -- what holds of n elements and of one more holds of each that stays

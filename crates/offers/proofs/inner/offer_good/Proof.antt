@@ -8,7 +8,7 @@ use Rattle.limits.specs.Domain.{outside}
 use Rattle.tracker.proofs.Good.{Agreed, fine, count-seqs, count-secs, capacity-seqs, capacity-secs}
 use Rattle.offers.specs.Whole.{Table}
 use Rattle.offers.specs.Offer.{tooSoon, lowSeq}
-use Rattle.offers.proofs.Thinned.{thinned-length}
+use Rattle.keeping.proofs.Thinned.{thinned-length}
 use Rattle.offers.proofs.Unique.{left-by}
 use Rattle.offers.proofs.inner.offer_good.Statement.{statement}
 use Rattle.offers.proofs.inner.offer_good.Tie as tie

@@ -9,8 +9,8 @@ use lib.ListN.{length, getD, take, drop, set, length-set, length-append, length-
 use lib.Seq.{ext-getD, getD-set-same, getD-set-other, getD-drop, getD-append-add, set-split}
 use Rattle.told.specs.Over.{over}
 use Rattle.order.proofs.Bools.{below-or}
-use Rattle.offers.specs.Keep.{evens, appended, thinned}
-use Rattle.offers.proofs.Thinned.{getD-evens, length-evens, appended-length, appended-old, appended-new, thinned-not, thinned-evens}
+use Rattle.keeping.specs.Keep.{evens, appended, thinned}
+use Rattle.keeping.proofs.Thinned.{getD-evens, length-evens, appended-length, appended-old, appended-new, thinned-not, thinned-evens}
 
 module _ {A : Type 0} (d : A) where
   -- in l the first j positions hold what stood at the even positions of xs before i, and the others what stood there

@@ -5,10 +5,10 @@ use native.Mathlib.Omega.{arith}
 use borrow.Author.Tests.{lt-ltb, le-ltb}
 use lib.ListN.{length-set}
 use Rattle.told.specs.Over.{over}
-use Rattle.offers.specs.Keep.{appended, thinned}
-use Rattle.offers.proofs.Halve.{Halving, halving-start, halving-more, added, ended-even, ended-odd}
-use Rattle.offers.proofs.keep.seq_keep.Statement.{statement}
-use Rattle.offers.proofs.keep.seq_keep.Tie as tie
+use Rattle.keeping.specs.Keep.{appended, thinned}
+use Rattle.keeping.proofs.Halve.{Halving, halving-start, halving-more, added, ended-even, ended-odd}
+use Rattle.keeping.proofs.inner.seq_keep.Statement.{statement}
+use Rattle.keeping.proofs.inner.seq_keep.Tie as tie
 
 abbrev Inv-loop : tie.InvT-loop
 Inv-loop seqs₀ n capacity q j₀ i₀ seqs j i = Halving 0 seqs₀ seqs j i × (i ≤ n + 1)

@@ -5,9 +5,9 @@ use lib.IntN.{pos}
 use lib.ListN.{getD, length-set}
 use mir.Facts.{toZ-ofZ}
 use Rattle.order.proofs.Order.{round}
-use Rattle.offers.proofs.Halve.{Halving, halving-start, halving-more, added, ended-even, ended-odd}
-use Rattle.offers.proofs.keep.sec_keep.Statement.{statement}
-use Rattle.offers.proofs.keep.sec_keep.Tie as tie
+use Rattle.keeping.proofs.Halve.{Halving, halving-start, halving-more, added, ended-even, ended-odd}
+use Rattle.keeping.proofs.inner.sec_keep.Statement.{statement}
+use Rattle.keeping.proofs.inner.sec_keep.Tie as tie
 
 abbrev Inv-loop : tie.InvT-loop
 Inv-loop secs₀ n capacity s j₀ i₀ secs j i = Halving (pos 0) secs₀ secs j i × (i ≤ n + 1)

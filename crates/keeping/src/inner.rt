@@ -4,7 +4,7 @@ ghost use mathlib.Core.Path.{_≡_};
 ghost use Prim.Native.Nat.{_≤_, _<_};
 ghost use lib.ListN.{length};
 ghost use Rattle.told.specs.Over.{over};
-ghost use Rattle.offers.specs.Keep.{appended, thinned, countWith};
+ghost use Rattle.keeping.specs.Keep.{appended, thinned, countWith};
 
 // The positions that stay, counted from 0: the first, then every second one.
 const FIRST_KEPT: usize = 0;
@@ -13,7 +13,7 @@ const STEP: usize = 2;
 
 // Gives how many pairs stay, of n and one more. Both arrays keep as many, so one of the two tells it; the sequences
 // come first, and whether there is room for one more has been tested here.
-pub(crate) fn seq_keep(seqs: &mut [u64], n: usize, capacity: usize, q: u64) -> usize
+pub fn seq_keep(seqs: &mut [u64], n: usize, capacity: usize, q: u64) -> usize
     requires { ⌜ (n ≤ length (now seqs)) × (capacity ≤ length (now seqs)) × (0 < length (now seqs)) ⌝ }
     ensures count { λ r. ⌜ r ≡ countWith capacity n ⌝ }
     ensures seqs { λ r. ⌜ now (seqs .exit) ≡ over (thinned capacity (appended n (now (seqs .entry)) q)) (now (seqs .entry)) ⌝ }
@@ -35,7 +35,7 @@ pub(crate) fn seq_keep(seqs: &mut [u64], n: usize, capacity: usize, q: u64) -> u
     n / 2 + 1
 }
 
-pub(crate) fn sec_keep(secs: &mut [i64], n: usize, capacity: usize, s: i64)
+pub fn sec_keep(secs: &mut [i64], n: usize, capacity: usize, s: i64)
     requires { ⌜ (n ≤ length (now secs)) × (capacity ≤ length (now secs)) × (0 < length (now secs)) ⌝ }
     ensures { λ _. ⌜ now (secs .exit) ≡ over (thinned capacity (appended n (now (secs .entry)) s)) (now (secs .entry)) ⌝ }
 {
