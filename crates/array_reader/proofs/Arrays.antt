@@ -14,12 +14,12 @@ use Rattle.bits.specs.Place.{posOf}
 use Rattle.signed.specs.Signed.{signed}
 use Rattle.bits.specs.declared.Place.{Place}
 use Rattle.bits.proofs.Answers.{pos-le}
-use Rattle.raw_bits.specs.BitList.{bitsOf, byteLen}
+use Rattle.bit_lists.specs.BitList.{bitsOf, byteLen}
 use Rattle.gorilla.specs.Inner.{shape, isRead}
 use Rattle.gorilla.specs.Parser.{Read, read, refused, takeBits, andThen, readOr, require}
 use Rattle.bits.specs.Inner.{bitsFrom}
 use Rattle.gorilla.specs.Reading.{readCode, readCodes, valuesAfter, readValues, readArray, readPart}
-use Rattle.raw_bits.proofs.Lists.{length-bitsOf}
+use Rattle.bit_lists.proofs.Lists.{length-bitsOf}
 use Rattle.gorilla.proofs.ImageTrip.{length-after}
 use Rattle.array_reader.specs.Inner.{arrayAt, passedAt, aligned}
 

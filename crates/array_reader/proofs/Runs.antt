@@ -15,12 +15,12 @@ use Rattle.raw_bits.specs.Inner.{bitAt}
 use Rattle.bits.specs.Place.{posOf, placeOf}
 use Rattle.bits.specs.declared.Place.{Place}
 use Rattle.bits.proofs.Answers.{pos-place}
-use Rattle.raw_bits.specs.BitList.{bitsOf}
+use Rattle.bit_lists.specs.BitList.{bitsOf}
 use Rattle.gorilla.specs.Inner.{shape}
 use Rattle.gorilla.specs.Parser.{read, refused}
 use Rattle.bits.specs.Inner.{bitsFrom}
 use Rattle.gorilla.specs.Reading.{countOnes, readCode, readCodes}
-use Rattle.raw_bits.proofs.Lists.{bit-is, length-bitsOf}
+use Rattle.bit_lists.proofs.Lists.{bit-is, length-bitsOf}
 use Rattle.gorilla.proofs.Taking.{no-bits}
 use Rattle.gorilla.proofs.Readers.{shape-next}
 use Rattle.code_reader.specs.Refusal.{told}

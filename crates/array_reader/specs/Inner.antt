@@ -9,7 +9,7 @@ use lib.ListN.{drop, length}
 use Rattle.bits.specs.declared.Place.{Place}
 use Rattle.gorilla.specs.Array.{arrayNo}
 use Rattle.gorilla.specs.declared.Array.{Array}
-use Rattle.raw_bits.specs.BitList.{bitsOf}
+use Rattle.bit_lists.specs.BitList.{bitsOf}
 use Rattle.gorilla.specs.Inner.{shape, isRead}
 use Rattle.gorilla.specs.Parser.{Read, read, refused, andThen, _>>_, give, align, readOr}
 use Rattle.bits.specs.Inner.{bitsFrom}

@@ -3,7 +3,7 @@ ghost use mathlib.Core.Path.{_≡_};
 ghost use Prim.Native.Nat.{_≤_};
 ghost use lib.ListN.{length};
 ghost use Rattle.bits.specs.Place.{posOf};
-ghost use Rattle.raw_bits.specs.BitList.{byteLen};
+ghost use Rattle.bit_lists.specs.BitList.{byteLen};
 ghost use Rattle.array_reader.specs.Inner.{ReadsValues, ReadsArray};
 use crate::scan::Scanned;
 use crate::scan::scan;

@@ -9,12 +9,12 @@ use lib.IntN.{ℤ, pos}
 use Rattle.bits.specs.Place.{placeOf}
 use Rattle.bits.specs.declared.Place.{Place}
 use Rattle.signed.specs.Signed.{pattern}
-use Rattle.raw_bits.specs.BitList.{natBits, byteLen}
+use Rattle.bit_lists.specs.BitList.{natBits, byteLen}
 use Rattle.raw_bits.specs.Inner.{putList}
 use Rattle.gorilla.specs.Format.{arrayBits, arrayBytes}
-use Rattle.raw_bits.proofs.Lists.{length-natBits, put-append}
+use Rattle.bit_lists.proofs.Lists.{length-natBits, put-append}
 use Rattle.gorilla.proofs.Putting.{place-pos}
-use Rattle.raw_bits.proofs.Packing.{put-packed, length-packed}
+use Rattle.bit_lists.proofs.Packing.{put-packed, length-packed}
 use Rattle.gorilla.proofs.ImageTrip.{bits-array}
 use Rattle.code_writer.specs.Inner.{codesOf}
 use Rattle.code_writer.proofs.Codes.{array-none, array-parts, none-length, parts-length}

@@ -10,9 +10,9 @@ use lib.IntN.{ℤ, pos}
 use Rattle.bits.specs.Place.{placeOf}
 use Rattle.bits.specs.declared.Place.{Place}
 use Rattle.gorilla.specs.declared.Track.{Track}
-use Rattle.raw_bits.specs.BitList.{natBits}
+use Rattle.bit_lists.specs.BitList.{natBits}
 use Rattle.raw_bits.specs.Inner.{putList}
-use Rattle.raw_bits.proofs.Lists.{length-natBits, length-putList, put-append}
+use Rattle.bit_lists.proofs.Lists.{length-natBits, length-putList, put-append}
 use Rattle.gorilla.proofs.Putting.{place-pos, place-bit}
 use Rattle.code_writer.specs.declared.Held.{Held}
 use Rattle.code_writer.specs.Inner.{codesOf, Leads, heldBits, Fits}

@@ -9,9 +9,9 @@ use lib.Dec.{ltb}
 use borrow.Author.Tests.{lt-ltb, le-ltb, ltb-true, ltb-false}
 use Rattle.told.specs.Told.{Told, gave, refused}
 use Rattle.told.specs.Over.{filled}
-use Rattle.raw_bits.specs.BitList.{natBits, bitsOf, natFrom, packed}
+use Rattle.bit_lists.specs.BitList.{natBits, bitsOf, natFrom, packed}
 use Rattle.raw_bits.specs.Inner.{bitsAt, putBits}
-use Rattle.raw_bits.proofs.Written.{from-at, put-over}
+use Rattle.bit_lists.proofs.Written.{from-at, put-over}
 use Rattle.bits.specs.Place.{posOf, placeOf}
 use Rattle.bits.specs.Read.{Piece, readRule, toldRead}
 use Rattle.bits.specs.Write.{writeRule, written}

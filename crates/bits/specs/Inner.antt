@@ -3,7 +3,7 @@ use Prim.Native.Nat.{ℕ, _+_, _*_, _<_, _≤_}
 use mathlib.Core.Path.{_≡_}
 use mathlib.Core.List.{List}
 use lib.ListN.{length, drop}
-use Rattle.raw_bits.specs.BitList.{bitsOf}
+use Rattle.bit_lists.specs.BitList.{bitsOf}
 use Rattle.bits.specs.Place.{posOf}
 use Rattle.bits.specs.declared.Place.{Place}
 

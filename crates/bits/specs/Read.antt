@@ -5,7 +5,7 @@ use mathlib.Core.List.{List, [], _∷_}
 use lib.ListN.{length, take, drop}
 use lib.Dec.{ltb}
 use Rattle.told.specs.Told.{Told, gave, refused}
-use Rattle.raw_bits.specs.BitList.{bitsOf, natFrom}
+use Rattle.bit_lists.specs.BitList.{bitsOf, natFrom}
 use Rattle.bits.specs.Place.{posOf, placeOf}
 use Rattle.bits.specs.declared.Place.{Place}
 use Rattle.bits.specs.declared.BitsRead.{BitsRead}

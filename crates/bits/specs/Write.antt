@@ -7,7 +7,7 @@ use lib.ListN.{length, take}
 use lib.Dec.{ltb}
 use Rattle.told.specs.Told.{Told, gave, refused}
 use Rattle.told.specs.Over.{filled}
-use Rattle.raw_bits.specs.BitList.{natBits, bitsOf, byteLen, packed}
+use Rattle.bit_lists.specs.BitList.{natBits, bitsOf, byteLen, packed}
 use Rattle.bits.specs.Place.{posOf, placeOf}
 use Rattle.bits.specs.declared.Place.{Place}
 use Rattle.bits.specs.declared.BitsWritten.{BitsWritten}

@@ -11,7 +11,7 @@ use lib.Pow.{field, shl-shr, shr-shr}
 use Rattle.raw_bits.specs.Inner.{bitAt, bitsAt}
 use Rattle.bits.specs.Place.{posOf}
 use Rattle.raw_bits.proofs.Bits.{bitAt-lt, bitsAt-add, bitsAt-lt}
-use Rattle.raw_bits.specs.BitList.{bitsOf}
+use Rattle.bit_lists.specs.BitList.{bitsOf}
 use Rattle.gorilla.specs.Parser.{read, refused, takeBits}
 use Rattle.gorilla.proofs.Bridge.{take-at, take-short}
 use Rattle.code_reader.specs.Inner.{Holds}

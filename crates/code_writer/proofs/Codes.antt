@@ -10,10 +10,10 @@ use Rattle.signed.specs.Signed.{pattern, subS}
 use Rattle.gorilla.specs.declared.Track.{Track}
 use Rattle.gorilla.specs.declared.Coded.{Coded}
 use Rattle.gorilla.specs.Inner.{advanced}
-use Rattle.raw_bits.specs.BitList.{natBits}
+use Rattle.bit_lists.specs.BitList.{natBits}
 use Rattle.raw_bits.specs.Inner.{putList}
 use Rattle.gorilla.specs.Format.{codeBits, codesBits, valuesBits, arrayBits}
-use Rattle.raw_bits.proofs.Lists.{length-natBits, length-putList, put-append}
+use Rattle.bit_lists.proofs.Lists.{length-natBits, length-putList, put-append}
 use Rattle.gorilla.proofs.Putting.{length-code, narrow, codes-step, codes-done}
 use Rattle.code_writer.specs.Inner.{codesOf, Leads}
 

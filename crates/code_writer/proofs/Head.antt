@@ -5,9 +5,9 @@ use mathlib.Core.List.{List, _++_}
 use native.Mathlib.Nat.{add-zero}
 use Rattle.bits.specs.Place.{placeOf}
 use Rattle.bits.specs.declared.Place.{Place}
-use Rattle.raw_bits.specs.BitList.{natBits}
+use Rattle.bit_lists.specs.BitList.{natBits}
 use Rattle.raw_bits.specs.Inner.{putList}
-use Rattle.raw_bits.proofs.Lists.{two-parts}
+use Rattle.bit_lists.proofs.Lists.{two-parts}
 use Rattle.gorilla.proofs.Putting.{place-pos}
 
 -- the count and the first value

@@ -12,12 +12,12 @@ use Rattle.signed.specs.Signed.{pattern}
 use Rattle.signed.specs.Inner.{lowBits}
 use Rattle.gorilla.specs.declared.Row.{Row}
 use Rattle.gorilla.specs.Rows.{rowOf}
-use Rattle.raw_bits.specs.BitList.{natBits, natFrom}
+use Rattle.bit_lists.specs.BitList.{natBits, natFrom}
 use Rattle.gorilla.specs.Format.{codeBits}
-use Rattle.raw_bits.proofs.Lists.{length-natBits}
+use Rattle.bit_lists.proofs.Lists.{length-natBits}
 use Rattle.gorilla.proofs.Taking.{one-more}
 use Rattle.gorilla.proofs.Trip.{rows}
-use Rattle.raw_bits.proofs.Packing.{nat-from, from-append, bits-append, bits-natBits}
+use Rattle.bit_lists.proofs.Packing.{nat-from, from-append, bits-append, bits-natBits}
 use Rattle.code_writer.specs.declared.Held.{Held}
 use Rattle.code_writer.specs.Inner.{heldBits, Fits}
 

@@ -13,7 +13,7 @@ use mir.Facts.{fits-ofZ}
 use Rattle.signed.specs.Signed.{signed, pattern, subW, subS, addS}
 use Rattle.gorilla.specs.declared.Track.{Track}
 use Rattle.gorilla.specs.Inner.{advanced}
-use Rattle.raw_bits.specs.BitList.{natBits}
+use Rattle.bit_lists.specs.BitList.{natBits}
 use Rattle.gorilla.specs.Format.{codesBits}
 use Rattle.gorilla.proofs.Trip.{addS-fits, subS-addS}
 use Rattle.code_writer.specs.Inner.{Leads, Even}

@@ -5,7 +5,7 @@ use mathlib.Core.List.{List, [], _∷_, _++_}
 use lib.ListN.{length, getD, drop}
 use lib.IntN.{ℤ, pos}
 use Rattle.gorilla.specs.declared.Track.{Track}
-use Rattle.raw_bits.specs.BitList.{natBits}
+use Rattle.bit_lists.specs.BitList.{natBits}
 use Rattle.gorilla.specs.Format.{codesBits}
 use Rattle.code_writer.specs.declared.Held.{Held}
 

@@ -5,7 +5,7 @@ ghost use Prim.Native.Nat.{_+_, _*_, _^_, _≤_, _<_};
 ghost use lib.ListN.{length};
 ghost use lib.IntN.{pos};
 ghost use Rattle.bits.specs.Place.{placeOf};
-ghost use Rattle.raw_bits.specs.BitList.{natBits};
+ghost use Rattle.bit_lists.specs.BitList.{natBits};
 ghost use Rattle.raw_bits.specs.Inner.{putList};
 ghost use Rattle.gorilla.specs.Format.{codeBits};
 ghost use Rattle.code_writer.specs.Inner.{heldBits, Fits};

@@ -4,7 +4,7 @@ ghost use mathlib.Core.List.{_++_};
 ghost use Prim.Native.Nat.{_+_, _*_, _^_, _≤_, _<_};
 ghost use lib.ListN.{length};
 ghost use Rattle.bits.specs.Place.{placeOf};
-ghost use Rattle.raw_bits.specs.BitList.{natBits, byteLen};
+ghost use Rattle.bit_lists.specs.BitList.{natBits, byteLen};
 ghost use Rattle.raw_bits.specs.Inner.{putList};
 use crate::code::put;
 use bits::Place;

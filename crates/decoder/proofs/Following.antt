@@ -13,12 +13,12 @@ use lib.Seq.{take-at, drop-at, drop-append-le}
 use Rattle.told.specs.Over.{over}
 use Rattle.told.specs.Told.{Told, gave}
 use Rattle.told.specs.Told as told
-use Rattle.raw_bits.specs.BitList.{bitsOf}
+use Rattle.bit_lists.specs.BitList.{bitsOf}
 use Rattle.gorilla.specs.Format.{imageBytes}
 use Rattle.gorilla.specs.Parser.{Read, read, refused}
 use Rattle.gorilla.specs.Reading.{Pairs, readImage}
 use Rattle.gorilla.specs.RoundTrip.{Fit}
-use Rattle.raw_bits.proofs.Lists.{length-bitsOf}
+use Rattle.bit_lists.proofs.Lists.{length-bitsOf}
 use Rattle.gorilla.proofs.RoundTrip.{receivedPairs, received-lengths, reads, exact}
 use Rattle.gorilla.proofs.Ignored.{following-ignored}
 use Rattle.decoder.specs.Decode.{listed, countOf, decodeRule, seqsAfter, secsAfter, imageLenOf, imageLenRule, startOf}

@@ -9,10 +9,10 @@ use lib.ListN.{length, take, drop, length-drop}
 use lib.Seq.{take-all}
 use Rattle.told.specs.Told.{gave}
 use Rattle.told.proofs.Unique.{given-not-refused, same-gift}
-use Rattle.raw_bits.specs.BitList.{bitsOf}
+use Rattle.bit_lists.specs.BitList.{bitsOf}
 use Rattle.gorilla.specs.Parser.{Read, read, refused}
 use Rattle.gorilla.specs.Reading.{Pairs, readImage}
-use Rattle.raw_bits.proofs.Lists.{length-bitsOf}
+use Rattle.bit_lists.proofs.Lists.{length-bitsOf}
 use Rattle.decoder.specs.Decode.{imageLenOf, imageLenRule}
 use Rattle.array_reader.specs.Inner.{Agrees}
 

@@ -6,9 +6,9 @@ use native.Mathlib.Omega.{arith}
 use lib.ListN.{length, drop, length-drop}
 use lib.Seq.{drop-drop}
 use Rattle.raw_bits.specs.Inner.{bitsAt}
-use Rattle.raw_bits.specs.BitList.{bitsOf}
-use Rattle.raw_bits.proofs.Lists.{length-bitsOf}
-use Rattle.raw_bits.proofs.Written.{from-at}
+use Rattle.bit_lists.specs.BitList.{bitsOf}
+use Rattle.bit_lists.proofs.Lists.{length-bitsOf}
+use Rattle.bit_lists.proofs.Written.{from-at}
 use Rattle.gorilla.specs.Parser.{read, refused, takeBits}
 use Rattle.gorilla.proofs.Taking.{enough, few}
 

@@ -10,12 +10,12 @@ use lib.ListN.{length, getD, take, drop, length-append, length-drop, take-append
 use lib.Seq.{take-at, drop-at, length-take-le}
 use lib.IntN.{ℤ}
 use Rattle.signed.specs.Signed.{pattern}
-use Rattle.raw_bits.specs.BitList.{bitsOf, natFrom}
+use Rattle.bit_lists.specs.BitList.{bitsOf, natFrom}
 use Rattle.gorilla.specs.Rows.{widths}
 use Rattle.gorilla.specs.Parser.{Read, read, refused, Reader, andThen, _>>=_, give, require, takeBits, align}
 use Rattle.gorilla.specs.Reading.{countOnes, readCode, readCodes, readValues, readArray, leCount, readPart, Pairs, readPairs}
 use Rattle.gorilla.specs.Ignored.{FollowingIgnored, Padded, PaddingIgnored}
-use Rattle.raw_bits.proofs.Lists.{length-bitsOf}
+use Rattle.bit_lists.proofs.Lists.{length-bitsOf}
 use Rattle.gorilla.proofs.Taking.{enough, were-enough}
 use Rattle.gorilla.proofs.Counts.{both}
 use Rattle.gorilla.proofs.ImageTrip.{bitsOf-append}

@@ -11,14 +11,14 @@ use lib.IntN.{ℤ, pos}
 use mir.Syntax.{w64}
 use mir.Facts.{sfits-toZ}
 use Rattle.signed.specs.Signed.{signed, pattern, subS, addS}
-use Rattle.raw_bits.specs.BitList.{natBits, bitsOf, byteLen}
+use Rattle.bit_lists.specs.BitList.{natBits, bitsOf, byteLen}
 use Rattle.gorilla.specs.Parser.{read}
 use Rattle.gorilla.specs.Format.{codeBits, codesBits, valuesBits, arrayBits, arrayBytes, leBytes, imageBytes}
 use Rattle.gorilla.specs.Reading.{leCount, readPart, readPairs, readImage, valuesAfter}
 use Rattle.gorilla.proofs.Taking.{take-is}
 use Rattle.gorilla.proofs.Trip.{AllFit, received, sentAfter, read-array}
-use Rattle.raw_bits.proofs.Lists.{length-bitsOf}
-use Rattle.raw_bits.proofs.Packing.{AllBits, bits-natBits, bits-append, bits-packed}
+use Rattle.bit_lists.proofs.Lists.{length-bitsOf}
+use Rattle.bit_lists.proofs.Packing.{AllBits, bits-natBits, bits-append, bits-packed}
 
 -- ---- an array's bits are bits
 bits-code : (d : ℤ) → AllBits (codeBits d)

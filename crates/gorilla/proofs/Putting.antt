@@ -7,7 +7,7 @@ use lib.ListN.{length, getD, drop, length-append, drop-of-length-le}
 use lib.Seq.{drop-cons}
 use native.Mathlib.Numerals.{add-one}
 use lib.IntN.{ℤ, pos}
-use Rattle.raw_bits.proofs.Lists.{length-natBits}
+use Rattle.bit_lists.proofs.Lists.{length-natBits}
 use Rattle.bits.specs.Place.{placeOf}
 use Rattle.bits.specs.declared.Place.{Place}
 use Rattle.signed.specs.Signed.{subS}

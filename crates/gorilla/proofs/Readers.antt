@@ -16,7 +16,7 @@ use Rattle.bits.specs.Read.{readRule, toldRead}
 use Rattle.bits.specs.declared.Place.{Place}
 use Rattle.bits.specs.declared.BitsRead.the-variants as rv
 use Rattle.bits.proofs.Answers.{given, short, pos-le}
-use Rattle.raw_bits.specs.BitList.{bitsOf}
+use Rattle.bit_lists.specs.BitList.{bitsOf}
 use Rattle.gorilla.specs.Inner.{shape}
 use Rattle.gorilla.specs.Parser.{Read, read, refused, takeBits, andThen}
 use Rattle.bits.specs.Inner.{bitsFrom}

@@ -14,7 +14,7 @@ use Rattle.told.proofs.Unique.{given-not-refused, same-list}
 use Rattle.signed.specs.Signed.{signed, pattern, addS, subS}
 use Rattle.gorilla.specs.Rows.{strict}
 use Rattle.signed.proofs.Wrapping.{pattern-signed, signed-pattern}
-use Rattle.raw_bits.specs.BitList.{bitsOf}
+use Rattle.bit_lists.specs.BitList.{bitsOf}
 use Rattle.gorilla.specs.Parser.{read}
 use Rattle.gorilla.specs.Format.{imageBytes}
 use Rattle.gorilla.specs.Reading.{Pairs, readImage, valuesAfter}

@@ -10,8 +10,8 @@ use lib.Dec.{ltb}
 use lib.ListN.{length, take, drop, length-append}
 use lib.Seq.{take-at, drop-at}
 use lib.Pow.{mod-pow-add}
-use Rattle.raw_bits.specs.BitList.{natBits, natFrom}
-use Rattle.raw_bits.proofs.Lists.{length-natBits}
+use Rattle.bit_lists.specs.BitList.{natBits, natFrom}
+use Rattle.bit_lists.proofs.Lists.{length-natBits}
 use Rattle.gorilla.specs.Parser.{read, refused, takeBits}
 
 module _ (l : List ℕ) (n : ℕ) (bs : List ℕ) where

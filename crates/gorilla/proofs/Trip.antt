@@ -21,7 +21,7 @@ use Rattle.signed.specs.Extend.{extend, signedOf}
 use Rattle.gorilla.specs.Rows.{row, rowOf, decoded, strict}
 use Rattle.signed.proofs.Wrapping.{pattern-signed, signed-pattern, addS-subS, sub-add, sub-lt}
 use Rattle.signed.proofs.Widths.{two-halves, read-low, read-high}
-use Rattle.raw_bits.specs.BitList.{natBits}
+use Rattle.bit_lists.specs.BitList.{natBits}
 use Rattle.gorilla.specs.Parser.{read, takeBits, andThen}
 use Rattle.gorilla.specs.Format.{codeBits, codesBits, valuesBits, arrayBits}
 use Rattle.gorilla.specs.Reading.{countOnes, readCode, readCodes, valuesAfter, readValues, readArray}

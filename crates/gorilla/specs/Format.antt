@@ -5,7 +5,7 @@ use lib.ListN.{length}
 use lib.IntN.{ℤ, pos}
 use Rattle.signed.specs.Signed.{signed, pattern, subS}
 use Rattle.gorilla.specs.Rows.{rowOf}
-use Rattle.raw_bits.specs.BitList.{natBits, packed}
+use Rattle.bit_lists.specs.BitList.{natBits, packed}
 
 -- the code of a difference of deltas: its row's prefix, and as many low bits as the row has
 unfoldable pub codeBits : ℤ → List ℕ

@@ -6,7 +6,7 @@ use mathlib.Core.List.{List, [], _++_, map}
 use lib.ListN.{length}
 use lib.IntN.{ℤ}
 use Rattle.signed.specs.Signed.{pattern}
-use Rattle.raw_bits.specs.BitList.{bitsOf}
+use Rattle.bit_lists.specs.BitList.{bitsOf}
 use Rattle.gorilla.specs.Parser.{read}
 use Rattle.gorilla.specs.Reading.{Pairs, readArray, readPairs, readImage}
 

@@ -8,7 +8,7 @@ use lib.IntN.{ℤ, pos}
 use Rattle.signed.specs.Signed.{signed, pattern, addS}
 use Rattle.gorilla.specs.Rows.{widths, decoded}
 use Rattle.gorilla.specs.Parser.{Read, read, refused, Reader, _>>=_, _>>_, give, require, takeBits, align, readOr}
-use Rattle.raw_bits.specs.BitList.{bitsOf}
+use Rattle.bit_lists.specs.BitList.{bitsOf}
 
 -- 6: no bit of a code is there; 7: its prefix is cut off
 unfoldable pub cutNumber : ℕ → ℕ

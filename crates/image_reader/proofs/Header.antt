@@ -10,7 +10,7 @@ use lib.IntN.{ℤ}
 use lib.ListN.{length, getD, drop}
 use Rattle.signed.specs.Signed.{pattern}
 use Rattle.raw_bits.proofs.Bits.{one-byte}
-use Rattle.raw_bits.specs.BitList.{bitsOf}
+use Rattle.bit_lists.specs.BitList.{bitsOf}
 use Rattle.gorilla.specs.Parser.{read, refused, takeBits}
 use Rattle.gorilla.specs.Reading.{readPart, leCount, readPairs, readImage}
 use Rattle.gorilla.proofs.Bridge.{take-at, take-short}

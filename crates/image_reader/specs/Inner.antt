@@ -5,7 +5,7 @@ use mathlib.Core.Bool.{Bool}
 use mathlib.Core.List.{List, [], _∷_, map}
 use lib.ListN.{drop, length}
 use Rattle.signed.specs.Signed.{pattern}
-use Rattle.raw_bits.specs.BitList.{bitsOf}
+use Rattle.bit_lists.specs.BitList.{bitsOf}
 use Rattle.gorilla.specs.Parser.{Read, read, refused, Reader, _>>=_, give}
 use Rattle.gorilla.specs.Reading.{Pairs, leCount, readPart, readImage}
 use Rattle.code_reader.specs.Refusal.{told}

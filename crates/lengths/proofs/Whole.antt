@@ -6,9 +6,9 @@ use native.Mathlib.Omega.{arith}
 use lib.ListN.{length, length-append, length-map}
 use lib.IntN.{ℤ}
 use Rattle.signed.specs.Signed.{signed}
-use Rattle.raw_bits.specs.BitList.{byteLen}
+use Rattle.bit_lists.specs.BitList.{byteLen}
 use Rattle.gorilla.specs.Format.{arrayBits, arrayBytes, leBytes, imageBytes}
-use Rattle.raw_bits.proofs.Packing.{length-packed}
+use Rattle.bit_lists.proofs.Packing.{length-packed}
 use Rattle.code_writer.proofs.Codes.{array-most}
 
 pub image-length : (seqs : List ℕ) (secs : List ℤ)

@@ -1,5 +1,1 @@
 pub mod Bits
-pub mod Kept
-pub mod Lists
-pub mod Packing
-pub mod Written

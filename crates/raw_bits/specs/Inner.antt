@@ -1,5 +1,5 @@
 -- Bits of bytes by their positions, as our own functions move them: bit p is bit 7 - p % 8 of byte p / 8. No public statement cites
--- this file: proofs/Written.antt says the same by lists of bits.
+-- this file: crates/bit_lists/proofs/Written.antt says the same by lists of bits.
 use Prim.Native.Nat.{ℕ, zero, suc, _+_, _-_, _*_, _/_, _%_, _^_}
 use mathlib.Core.List.{List, [], _∷_}
 use lib.ListN.{getD, set}

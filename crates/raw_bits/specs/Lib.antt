@@ -1,2 +1,1 @@
-pub mod BitList
 pub mod Inner

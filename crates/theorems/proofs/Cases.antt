@@ -1,7 +1,7 @@
 -- The table of cases, by computation.
 use mathlib.Core.Path.{refl}
 use Rattle.order.specs.First.{firstFrom, lastOr}
-use Rattle.raw_bits.specs.BitList.{natBits, bitsOf, natFrom, bytesOf, packed}
+use Rattle.bit_lists.specs.BitList.{natBits, bitsOf, natFrom, bytesOf, packed}
 use Rattle.gorilla.specs.Format.{codeBits, codesBits, valuesBits, arrayBits, leBytes, imageBytes}
 use Rattle.gorilla.specs.Parser.{takeBits}
 use Rattle.gorilla.specs.Reading.{cutNumber, countOnes, readCode, readCodes, valuesAfter, readValues, readArray, leCount, readPart, readPairs}

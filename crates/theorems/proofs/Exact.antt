@@ -10,7 +10,7 @@ use lib.ListN.{length, getD, drop}
 use lib.Seq.{take-at}
 use Rattle.told.specs.Told.{Told, gave, refused, ifGood}
 use Rattle.told.proofs.Unique.{same-list}
-use Rattle.raw_bits.specs.BitList.{bitsOf}
+use Rattle.bit_lists.specs.BitList.{bitsOf}
 use Rattle.gorilla.specs.Parser.{read}
 use Rattle.gorilla.specs.Reading.{Pairs}
 use Rattle.gorilla.specs.Wide.{wideOf}

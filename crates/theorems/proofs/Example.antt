@@ -6,7 +6,7 @@ use lib.IntN.{pos}
 use lib.ListN.{take, replicate}
 use Rattle.order.specs.First.{firstFrom}
 use Rattle.tracker.specs.declared.LastRecorded.the-variants.{At}
-use Rattle.raw_bits.specs.BitList.{natBits, bitsOf, natFrom, bytesOf, packed}
+use Rattle.bit_lists.specs.BitList.{natBits, bitsOf, natFrom, bytesOf, packed}
 use Rattle.gorilla.specs.Format.{codeBits, codesBits, valuesBits, arrayBits, leBytes, imageBytes}
 use Rattle.gorilla.specs.Parser.{takeBits}
 use Rattle.gorilla.specs.Reading.{cutNumber, countOnes, readCode, readCodes, valuesAfter, readValues, readArray, leCount, readPart, readPairs}

@@ -7,7 +7,7 @@ use lib.ListN.{length, take, getD}
 use lib.IntN.{ℤ}
 use Rattle.told.specs.Told.{Told, gave, refused}
 use Rattle.told.specs.Over.{over, filled}
-use Rattle.raw_bits.specs.BitList.{bitsOf}
+use Rattle.bit_lists.specs.BitList.{bitsOf}
 use Rattle.gorilla.specs.Parser.{Read, read}
 use Rattle.gorilla.specs.Reading.{Pairs, pairsRead}
 use Rattle.fresh.specs.Fresh.{newTable}

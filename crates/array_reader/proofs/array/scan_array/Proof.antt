@@ -13,7 +13,7 @@ use Rattle.bits.specs.declared.Place.{Place}
 use Rattle.bits.proofs.Answers.{given, too-wide}
 use Rattle.raw_bits.proofs.Bits.{bitsAt-lt}
 use Rattle.gorilla.specs.Array.{arrayNo}
-use Rattle.raw_bits.specs.BitList.{bitsOf}
+use Rattle.bit_lists.specs.BitList.{bitsOf}
 use Rattle.gorilla.specs.Parser.{read, takeBits}
 use Rattle.bits.specs.Inner.{bitsFrom}
 use Rattle.gorilla.specs.Reading.{readValues, readArray}

@@ -11,7 +11,7 @@ use Rattle.bits.specs.Read.{toldRead}
 use Rattle.bits.specs.declared.Place.{Place}
 use Rattle.bits.proofs.Answers.{given, too-wide}
 use Rattle.gorilla.specs.Array.{arrayNo}
-use Rattle.raw_bits.specs.BitList.{bitsOf}
+use Rattle.bit_lists.specs.BitList.{bitsOf}
 use Rattle.gorilla.specs.Inner.{shape}
 use Rattle.gorilla.specs.Parser.{read, takeBits}
 use Rattle.bits.specs.Inner.{bitsFrom}

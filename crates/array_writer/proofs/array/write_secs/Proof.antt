@@ -7,7 +7,7 @@ use lib.ListN.{length, getD}
 use lib.IntN.{ℤ, pos}
 use mir.Facts.{toZ-ofZ}
 use Rattle.signed.specs.Signed.{pattern}
-use Rattle.raw_bits.proofs.Lists.{length-putList}
+use Rattle.bit_lists.proofs.Lists.{length-putList}
 use Rattle.gorilla.proofs.Putting.{place-pos, place-bit}
 use Rattle.code_writer.specs.Inner.{codesOf}
 use Rattle.code_writer.proofs.Codes.{none-length, parts-length}

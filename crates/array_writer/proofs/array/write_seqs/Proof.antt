@@ -7,9 +7,9 @@ use lib.ListN.{length, getD, length-map, List·getD-map}
 use lib.IntN.{ℤ, pos}
 use Rattle.signed.specs.Signed.{signed, pattern}
 use Rattle.signed.proofs.Wrapping.{pattern-signed}
-use Rattle.raw_bits.specs.BitList.{natBits}
+use Rattle.bit_lists.specs.BitList.{natBits}
 use Rattle.raw_bits.specs.Inner.{putList}
-use Rattle.raw_bits.proofs.Lists.{length-putList}
+use Rattle.bit_lists.proofs.Lists.{length-putList}
 use Rattle.gorilla.proofs.Putting.{place-pos, place-bit}
 use Rattle.code_writer.specs.Inner.{codesOf}
 use Rattle.code_writer.proofs.Codes.{none-length, parts-length}

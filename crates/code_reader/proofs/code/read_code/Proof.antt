@@ -12,7 +12,7 @@ use mir.Val.{SFits}
 use mir.Facts.{toZ-ofZ}
 use Rattle.raw_bits.specs.Inner.{bitsAt}
 use Rattle.gorilla.specs.Array.{arrayNo}
-use Rattle.raw_bits.specs.BitList.{bitsOf}
+use Rattle.bit_lists.specs.BitList.{bitsOf}
 use Rattle.gorilla.specs.Parser.{read, refused}
 use Rattle.gorilla.specs.Reading.{countOnes, readCode}
 use Rattle.gorilla.specs.Rows.{widths, decoded}

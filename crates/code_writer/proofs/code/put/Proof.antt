@@ -1,7 +1,7 @@
 use borrow.Author.Needs.{needs}
 use Prim.Native.Nat.{_+_, _*_}
 use mathlib.Core.Path.{_∙_}
-use Rattle.raw_bits.proofs.Lists.{put-nat}
+use Rattle.bit_lists.proofs.Lists.{put-nat}
 use Rattle.code_writer.proofs.code.put.Statement.{statement}
 use Rattle.code_writer.proofs.code.put.Tie as tie
 

@@ -4,7 +4,7 @@ use Prim.Native.Nat.{ℕ, _+_, _*_}
 use mathlib.Core.Path.{_≡_, ap, _∙_}
 use lib.ListN.{length}
 use Rattle.bits.specs.Place.{placeOf}
-use Rattle.raw_bits.proofs.Lists.{length-putList}
+use Rattle.bit_lists.proofs.Lists.{length-putList}
 use Rattle.gorilla.proofs.Putting.{place-pos, place-bit}
 use Rattle.code_writer.proofs.Head.{head-put}
 use Rattle.code_writer.proofs.ends.write_head.Statement.{statement}

@@ -2,7 +2,7 @@ use native.Mathlib.Nat.{add-zero}
 use Prim.Native.Nat.{ℕ, _*_}
 use mathlib.Core.Path.{ap, _∙_}
 use borrow.Author.Needs.{needs}
-use Rattle.raw_bits.specs.BitList.{natBits}
+use Rattle.bit_lists.specs.BitList.{natBits}
 use Rattle.raw_bits.specs.Inner.{putList}
 use Rattle.code_writer.proofs.ends.write_none.Statement.{statement}
 use Rattle.code_writer.proofs.ends.write_none.Tie as tie

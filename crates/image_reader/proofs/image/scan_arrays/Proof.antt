@@ -12,7 +12,7 @@ use mir.Syntax.{w64}
 use mir.Val.{SFits}
 use mir.Facts.{toZ-ofZ}
 use Rattle.signed.specs.Signed.{pattern}
-use Rattle.raw_bits.specs.BitList.{bitsOf}
+use Rattle.bit_lists.specs.BitList.{bitsOf}
 use Rattle.gorilla.specs.Parser.{read}
 use Rattle.gorilla.specs.Reading.{readArray, readPart}
 use Rattle.image_reader.specs.Inner.{readArrays}

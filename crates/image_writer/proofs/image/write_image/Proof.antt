@@ -8,7 +8,7 @@ use lib.Seq.{length-sets}
 use lib.IntN.{ℤ}
 use Rattle.signed.specs.Signed.{signed}
 use Rattle.gorilla.specs.Format.{arrayBits}
-use Rattle.raw_bits.proofs.Packing.{length-packed}
+use Rattle.bit_lists.proofs.Packing.{length-packed}
 use Rattle.lengths.proofs.Whole.{image-length}
 use Rattle.image_writer.proofs.Whole.{image-put}
 use Rattle.image_writer.proofs.image.write_image.Statement.{statement}

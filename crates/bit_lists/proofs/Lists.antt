@@ -9,9 +9,9 @@ use borrow.Author.Tests.{ltb-true, ltb-false}
 use lib.Dec.{ltb}
 use lib.ListN.{length, getD, length-append, length-set, List·getD-append}
 use lib.Seq.{getD-append-add}
-use Rattle.raw_bits.specs.BitList.{natBits, bitsOf}
+use Rattle.bit_lists.specs.BitList.{natBits, bitsOf}
 use Rattle.raw_bits.specs.Inner.{bitAt, putBit, putBits, putList}
 use Rattle.raw_bits.proofs.Bits.{putBits-add}
 
 pub length-natBits : (w x : ℕ) → length (natBits w x) ≡ w
 unfolding natBits

@@ -10,10 +10,10 @@ use lib.Dec.{ltb}
 use lib.ListN.{length, getD, set, take, drop, replicate, length-append, length-drop, length-set, take-append-drop}
 use lib.Seq.{take-append-le, drop-append-le, take-append-add, take-add, sets, length-take-le}
 use lib.Arith.{digits-div, digits-mod}
 use Rattle.raw_bits.specs.Inner.{putBits, putList}
 use Rattle.raw_bits.proofs.Bits.{putBits-byte, byte-set}
-use Rattle.raw_bits.specs.BitList.{natBits, bitsOf, natFrom, bytesOf, byteLen, packed}
-use Rattle.raw_bits.proofs.Lists.{put-nat, put-append}
+use Rattle.bit_lists.specs.BitList.{natBits, bitsOf, natFrom, bytesOf, byteLen, packed}
+use Rattle.bit_lists.proofs.Lists.{put-nat, put-append}
 
 unfoldable pub AllBits : List ℕ → Type 0
 AllBits [] = Unit {0}

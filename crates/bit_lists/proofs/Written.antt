@@ -10,11 +10,11 @@ use lib.Dec.{ltb}
 use lib.ListN.{length, getD, set, take, drop, length-append, length-drop}
 use lib.Seq.{take-suc, take-append-le, take-append-add, getD-drop, sets-eq, length-take-le}
 use lib.Pow.{pow-pos, shr-lt, shr-shr}
-use Rattle.raw_bits.specs.BitList.{natBits, bitsOf, natFrom, packed}
+use Rattle.bit_lists.specs.BitList.{natBits, bitsOf, natFrom, packed}
 use Rattle.raw_bits.specs.Inner.{bitsAt, putBit, putBits, putList}
 use Rattle.raw_bits.proofs.Bits.{putBits-byte, putBit-eq}
-use Rattle.raw_bits.proofs.Lists.{length-natBits, length-bitsOf, bit-is, put-nat, put-append}
-use Rattle.raw_bits.proofs.Packing.{AllBits, bits-natBits, bits-append, bits-take, bits-of, from-append, put-packed, length-packed}
+use Rattle.bit_lists.proofs.Lists.{length-natBits, length-bitsOf, bit-is, put-nat, put-append}
+use Rattle.bit_lists.proofs.Packing.{AllBits, bits-natBits, bits-append, bits-take, bits-of, from-append, put-packed, length-packed}
 
 -- n bits from p on are the number that they are in the list
 pub from-at : (s : List ℕ) (p n : ℕ) → p + n ≤ length s * 8 → natFrom 0 (take n (drop p (bitsOf s))) ≡ bitsAt s p n

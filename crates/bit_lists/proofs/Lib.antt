@@ -1,0 +1,4 @@
+pub mod Kept
+pub mod Lists
+pub mod Packing
+pub mod Written
