@@ -6,6 +6,7 @@ use mathlib.Core.Bool.{Bool, false}
 use mathlib.Core.List.{List}
 use lib.ListN.{length, take, drop, length-append}
 use Rattle.told.specs.Over.{over}
+use Rattle.input.specs.Input.{ReadInto}
 use Rattle.input.specs.declared.once.Over.{Over}
 use Rattle.report.specs.Listing.{listingOf}
 use Rattle.listing_io.specs.Run.{Ran}
@@ -15,6 +16,6 @@ pub fits-there : (text old : List ℕ) {new : List ℕ} {r : ℕ} → r ≡ leng
 fits-there text old e h = omega (arith, e, ap length h, length-append text (drop (length text) old))
 
 -- the bytes of an input that was read to its end, listed
-pub ran : (o : Over) (input old new : List ℕ) (f : Bool) (n : ℕ) → f ≡ o .failed → f ≡ false → n ≡ o .bytes → o .bytes ≤ length input
+pub ran : (o : Over) (input old new : List ℕ) (f : Bool) (n : ℕ) → f ≡ o .failed → f ≡ false → n ≡ o .bytes → ReadInto o input
     → new ≡ over (listingOf (take n input)) old → Ran o input old new
 ran o input old new f n e g b l h = let k : o .failed ≡ false = sym e ∙ g in (l, rw (k, ← b) h)

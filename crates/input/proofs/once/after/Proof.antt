@@ -13,27 +13,27 @@ not-failed c = rw (toZ-ofZ (c .before .fits .got)) at (c .if1 .left)
 returns : tie.Need-returns
 returns c =
     let st = c .before in
-    fails (st .args .done) (st .args .got) (rw (toZ-ofZ (st .fits .got)) at (c .if1 .taken))
+    fails (st .args .at) (st .args .got) (rw (toZ-ofZ (st .fits .got)) at (c .if1 .taken))
 
 returns-2 : tie.Need-returns-2
 returns-2 c =
     let st = c .before .before in
-    ends (st .args .done) (st .args .got) (not-failed (c .before)) (c .if2 .taken)
+    ends (st .args .at) (st .args .got) (not-failed (c .before)) (c .if2 .taken)
 
-cast-t6 : tie.Need-cast-t6
-cast-t6 c =
+cast-t7 : tie.Need-cast-t7
+cast-t7 c =
     let st = c .before .before in
-    rw (toZ-ofZ (st .fits .got)) ((counts (st .args .done) (st .args .got) (st .fits .got) (not-failed (c .before)) (st .pre)) .0)
+    rw (toZ-ofZ (st .fits .got)) ((counts (st .args .at) (st .args .got) (st .fits .got) (not-failed (c .before)) (st .pre)) .0)
 
-add-t7 : tie.Need-add-t7
-add-t7 c =
+add-t8 : tie.Need-add-t8
+add-t8 c =
     let st = c .before .before in
-    rw (toZ-ofZ (st .fits .got)) ((counts (st .args .done) (st .args .got) (st .fits .got) (not-failed (c .before)) (st .pre)) .1)
+    rw (toZ-ofZ (st .fits .got)) ((counts (st .args .at) (st .args .got) (st .fits .got) (not-failed (c .before)) (st .pre)) .1)
 
 returns-3 : tie.Need-returns-3
 returns-3 c =
     let st = c .before .before in
-    rw (toZ-ofZ (st .fits .got)) (adds (st .args .done) (st .args .got) (not-failed (c .before)) (c .if2 .left))
+    rw (toZ-ofZ (st .fits .got)) (adds (st .args .at) (st .args .got) (not-failed (c .before)) (c .if2 .left))
 
 pub after-spec : {M : Type 1} → statement M
-after-spec = tie.close (tie.spec returns returns-2 cast-t6 add-t7 returns-3)
+after-spec = tie.close (tie.spec returns returns-2 cast-t7 add-t8 returns-3)

@@ -24,7 +24,7 @@ after-requires c κs =
     let st = rd .before .before .before in
     let b : length (st .args .buf .now) < 18446744073709551616 = search needs in
     rw (toZ-ofZ (sfits-of (rd .read .ok)))
-    (counted (st .args .done) (rd .read .result) (length (st .args .buf .now)) b (st .pre) (rw (room-left (st .args .done) (st .args .buf .now)) at (rd .read .ensures)))
+    (counted (st .args .at) (rd .read .result) (length (st .args .buf .now)) b (st .pre .0) (rw (room-left (st .args .at .bytes) (st .args .buf .now)) at (rd .read .ensures)))
 
 same-length : tie.Need-same-length
 same-length c = search needs
@@ -35,8 +35,8 @@ returns c =
     let st = rd .before .before .before in
     record {
       got = rd .read .result;
-      moved = rw (room-left (st .args .done) (st .args .buf .now)) at (rd .read .ensures);
-      kept = stays (st .args .done) (st .args .buf .now) (rd .read .last .1 .0) (st .pre);
+      moved = rw (room-left (st .args .at .bytes) (st .args .buf .now)) at (rd .read .ensures);
+      kept = stays (st .args .at .bytes) (st .args .buf .now) (rd .read .last .1 .0) (st .pre .0);
       added = rw (toZ-ofZ (sfits-of (rd .read .ok))) at (c .after .ensures);
     }
 
