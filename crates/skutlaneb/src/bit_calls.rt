@@ -6,7 +6,7 @@ ghost use Rattle.signed.specs.Extend.{extendRule};
 ghost use Rattle.answers.specs.Answer.{ofPiece, ofPlace, ofSigned};
 use answers::Answer;
 use bits::Place;
-use call_answers as calls;
+use call_answers::inner as calls;
 
 // Gives the bits as a number, and the byte and the bit of the place after them.
 #[no_mangle]

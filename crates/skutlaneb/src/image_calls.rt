@@ -5,7 +5,7 @@ ghost use Rattle.decoder.specs.Decode as decoding;
 ghost use Rattle.answers.specs.Answer.{ofCount};
 ghost use Rattle.skutlaneb.specs.Calls.{Encodes};
 use answers::Answer;
-use call_answers as calls;
+use call_answers::inner as calls;
 
 // Gives the bytes of the image.
 #[no_mangle]

@@ -2,7 +2,7 @@
 ghost use Rattle.saving.specs.Save.{saveOf, saveStrictOf};
 ghost use Rattle.skutlaneb.specs.Calls.{Saves, Restores};
 use answers::Answer;
-use call_answers as calls;
+use call_answers::inner as calls;
 use states::State;
 use table_answers::TableAnswer;
 use table_answers::inner as tables;
@@ -12,7 +12,7 @@ use table_answers::inner as tables;
 pub extern "C" fn skut_save(state: State, seqs: &[u64], secs: &[i64], out: &mut [u8]) -> Answer
     ensures { λ r. ⌜ Saves saveOf state (now (seqs .entry)) (now (secs .entry)) (now (out .entry)) r (now (out .exit)) ⌝ }
 {
-    let table = states::table_of(state);
+    let table = states::inner::table_of(state);
     calls::of_saved(saving::save(table, seqs, secs, out))
 }
 
@@ -26,7 +26,7 @@ pub extern "C" fn skut_save_strict(
 ) -> Answer
     ensures { λ r. ⌜ Saves saveStrictOf state (now (seqs .entry)) (now (secs .entry)) (now (out .entry)) r (now (out .exit)) ⌝ }
 {
-    let table = states::table_of(state);
+    let table = states::inner::table_of(state);
     calls::of_saved(saving::save_strict(table, seqs, secs, out))
 }
 

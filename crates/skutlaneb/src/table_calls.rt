@@ -9,7 +9,7 @@ ghost use Rattle.states.specs.State.{tableOf, roundOf};
 ghost use Rattle.table_answers.specs.Table.{ofTable};
 ghost use Rattle.skutlaneb.specs.Calls.{Offers, OffersPairs, Extends};
 use answers::Answer;
-use call_answers as calls;
+use call_answers::inner as calls;
 use states::State;
 use table_answers::TableAnswer;
 use table_answers::inner as tables;
@@ -37,7 +37,7 @@ pub extern "C" fn skut_with_config(capacity: u32, interval_secs: u64) -> TableAn
 pub extern "C" fn skut_check(state: State, seqs: &[u64], secs: &[i64]) -> Answer
     ensures { λ r. ⌜ r ≡ ofCheck (checkOf (tableOf state) (now (seqs .entry)) (now (secs .entry))) ⌝ }
 {
-    let table = states::table_of(state);
+    let table = states::inner::table_of(state);
     calls::of_checked(tracker::check(table, seqs, secs))
 }
 
@@ -52,7 +52,7 @@ pub extern "C" fn skut_offer(
 ) -> TableAnswer
     ensures { λ r. ⌜ Offers state (now (seqs .entry)) (now (secs .entry)) seq sec r (now (seqs .exit)) (now (secs .exit)) ⌝ }
 {
-    let table = states::table_of(state);
+    let table = states::inner::table_of(state);
     let offered = offers::offer(table, seqs, secs, Seq(seq), Second(sec));
     tables::of_offered(table, offered)
 }
@@ -69,7 +69,7 @@ pub extern "C" fn skut_offer_pairs(
     ensures { λ r. ⌜ OffersPairs state (now (seqs .entry)) (now (secs .entry)) (now («from_seqs» .entry)) (now («from_secs» .entry))
         r (now (seqs .exit)) (now (secs .exit)) ⌝ }
 {
-    let table = states::table_of(state);
+    let table = states::inner::table_of(state);
     tables::of_logged(log_pairs::offer_pairs(table, seqs, secs, from_seqs, from_secs))
 }
 
@@ -86,8 +86,8 @@ pub extern "C" fn skut_extend_from(
     ensures { λ r. ⌜ Extends state (now (seqs .entry)) (now (secs .entry)) other (now («other_seqs» .entry)) (now («other_secs» .entry))
         r (now (seqs .exit)) (now (secs .exit)) ⌝ }
 {
-    let table = states::table_of(state);
-    let from = states::table_of(other);
+    let table = states::inner::table_of(state);
+    let from = states::inner::table_of(other);
     let logged = log_pairs::extend_from(table, seqs, secs, from, other_seqs, other_secs);
     tables::of_logged(logged)
 }
@@ -103,8 +103,8 @@ pub extern "C" fn skut_find_ts(
 ) -> Answer
     ensures { λ r. ⌜ r ≡ ofTs (findTs (tableOf state) (now (seqs .entry)) (now (secs .entry)) (record { 0 = seq }) (roundOf round)) ⌝ }
 {
-    let table = states::table_of(state);
-    let opt = states::round_of(round);
+    let table = states::inner::table_of(state);
+    let opt = states::inner::round_of(round);
     calls::of_found_ts(lookup::find_ts(table, seqs, secs, Seq(seq), opt))
 }
 
@@ -119,7 +119,7 @@ pub extern "C" fn skut_find_seq(
 ) -> Answer
     ensures { λ r. ⌜ r ≡ ofSeq (findSeq (tableOf state) (now (seqs .entry)) (now (secs .entry)) (record { 0 = sec }) (roundOf round)) ⌝ }
 {
-    let table = states::table_of(state);
-    let opt = states::round_of(round);
+    let table = states::inner::table_of(state);
+    let opt = states::inner::round_of(round);
     calls::of_found_seq(lookup::find_seq(table, seqs, secs, Second(sec), opt))
 }

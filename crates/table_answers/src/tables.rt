@@ -14,7 +14,7 @@ use tracker::SequenceTracker;
 pub fn with_table(answer: Answer, table: SequenceTracker, tally: Tally) -> TableAnswer
     ensures { λ r. ⌜ r ≡ record { answer = answer; recorded = tally .recorded; skipped = tally .skipped; state = stateOf table } ⌝ }
 {
-    let state = states::state_of(table);
+    let state = states::inner::state_of(table);
     TableAnswer {
         answer: answer,
         recorded: tally.recorded as u64,
@@ -41,7 +41,7 @@ pub fn fresh(table: SequenceTracker) -> TableAnswer
 pub fn no_table(answer: Answer) -> TableAnswer
     ensures { λ r. ⌜ r ≡ record { answer = answer; recorded = 0; skipped = 0; state = noState } ⌝ }
 {
-    let state = states::no_state();
+    let state = states::inner::no_state();
     TableAnswer {
         answer: answer,
         recorded: 0,
