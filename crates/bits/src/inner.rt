@@ -24,10 +24,10 @@ pub fn settle(len: usize, at: Place) -> Place
 
 // The whole bytes that `width` bits from a place on reach into.
 pub fn needed(at: Place, width: u8) -> usize
-    requires { ⌜ (at .byte < 2 ^ 63) × (at .bit < 8) × (width ≤ 64) ⌝ }
+    requires { ⌜ (at .byte < 2 ^ 63) × (at .bit < 8) ⌝ }
     ensures { λ r. ⌜ r ≡ (at .byte * 8 + at .bit + width + 7) / 8 ⌝ }
 {
-    at.byte + ((at.bit + width + 7) / 8) as usize
+    at.byte + (at.bit as usize + width as usize + 7) / 8
 }
 
 // The place `width` bits on.
