@@ -4,10 +4,8 @@ ghost use Prim.Native.Nat.{_+_, _*_, _/_, _^_, _≤_, _<_};
 ghost use Rattle.bits.specs.Place.{placeOf};
 ghost use Rattle.bits.specs.Inner.{Settled};
 use crate::Place;
-pub use raw_bits::inner::bit_at;
 pub use raw_bits::inner::field;
 pub use raw_bits::inner::put_bits;
-pub use raw_bits::inner::take_bits;
 pub use raw_bits::inner::word_at;
 
 // The place itself, or the end of a slice of `len` bytes.
