@@ -1,4 +1,4 @@
-// The steps below the public calls, for our own crates. Each asks what its caller has tested.
+// The steps below the public calls, for our own crates. All but `settle` ask what their caller has tested.
 ghost use mathlib.Core.Path.{_≡_};
 ghost use Prim.Native.Nat.{_+_, _*_, _/_, _^_, _≤_, _<_};
 ghost use Rattle.bits.specs.Place.{placeOf};

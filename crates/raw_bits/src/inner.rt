@@ -1,4 +1,4 @@
-// The steps. Each asks what its caller has tested.
+// The steps. All but `wide` and `least` ask what their caller has tested.
 ghost use mathlib.Core.Path.{_≡_};
 ghost use Prim.Native.Nat.{_+_, _*_, _-_, _/_, _%_, _^_, _≤_, _<_, min};
 ghost use lib.ListN.{length};
