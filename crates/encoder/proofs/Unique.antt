@@ -7,7 +7,6 @@ use lib.IntN.{ℤ}
 use Rattle.told.specs.Told.{Told}
 use Rattle.told.proofs.Unique.{given-not-refused, same-list}
 use Rattle.gorilla.specs.Array.{arrayNo}
-use Rattle.gorilla.specs.declared.Array.{Array}
 use Rattle.gorilla.proofs.Unique.{array-told}
 use Rattle.encoder.specs.Encode.{told, toldLen, toldEncode, lenRule, Encodes}
 use Rattle.encoder.specs.declared.Refusal.{Refusal}
