@@ -1,4 +1,4 @@
-pub mod Kept
+pub mod Joined
 pub mod Lists
 pub mod Packing
 pub mod Written

@@ -2,7 +2,7 @@
 use Prim.Native.Nat.{ℕ, zero, suc, _+_, _-_, _*_, _/_, _%_, _^_, _≤_, _<_}
 use mathlib.Core.Path.{_≡_, refl, sym, ap, ap₂, _∙_}
 use mathlib.Core.Bool.{Bool, true, false}
-use mathlib.Core.List.{List, [], _∷_, _++_}
+use mathlib.Core.List.{List, [], _∷_, _++_, append-assoc}
 use native.Mathlib.Nat.{add-zero, zero-div}
 use native.Mathlib.Omega.{arith}
 use borrow.Author.Tests.{ltb-true, ltb-false}
@@ -22,6 +22,11 @@ pub length-bitsOf : (s : List ℕ) → length (bitsOf s) ≡ length s * 8
 unfolding bitsOf
 length-bitsOf [] = refl
 length-bitsOf (x ∷ s) = omega (arith, length-append (natBits 8 x) (bitsOf s), length-natBits 8 x, length-bitsOf s)
+
+pub bitsOf-append : (a b : List ℕ) → bitsOf (a ++ b) ≡ bitsOf a ++ bitsOf b
+unfolding bitsOf
+bitsOf-append [] b = refl
+bitsOf-append (x ∷ a) b = rw (append-assoc) (ap (λ (ys : List ℕ). natBits 8 x ++ ys) (bitsOf-append a b))
 
 bit-natBits : (w x j : ℕ) → j < w → getD (natBits w x) j 0 ≡ x / 2 ^ (w - suc j) % 2
 unfolding natBits

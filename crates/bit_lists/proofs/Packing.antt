@@ -10,6 +10,7 @@ use lib.Dec.{ltb}
 use lib.ListN.{length, getD, set, take, drop, replicate, length-append, length-drop, length-set, take-append-drop}
 use lib.Seq.{take-append-le, drop-append-le, take-append-add, take-add, sets, length-take-le}
 use lib.Arith.{digits-div, digits-mod}
+use lib.Pow.{mod-pow-add}
 use Rattle.raw_bits.specs.Inner.{putBits, putList}
 use Rattle.raw_bits.proofs.Bits.{putBits-byte, byte-set}
 use Rattle.bit_lists.specs.BitList.{natBits, bitsOf, natFrom, bytesOf, byteLen, packed}
@@ -79,6 +80,22 @@ pub from-append : (v : ℕ) (a b : List ℕ) → natFrom v (a ++ b) ≡ natFrom 
 unfolding natFrom
 from-append v [] b = refl
 from-append v (x ∷ a) b = from-append (v * 2 + x) a b
+
+-- a number's highest bit of suc n, then the others
+one-more : (v x n : ℕ) → (v * 2 + x / 2 ^ n % 2) * 2 ^ n + x % 2 ^ n ≡ v * 2 ^ suc n + x % 2 ^ suc n
+one-more v x n =
+    let P : ℕ = 2 ^ n in
+    let b : ℕ = x / P % 2 in
+    let e : suc n ≡ 1 + n = omega arith in
+    let m : x % 2 ^ suc n ≡ b * P + x % P = ap (λ (u : ℕ). x % 2 ^ u) e ∙ mod-pow-add x 1 n in
+    let s : v * 2 ^ suc n ≡ v * 2 * P = ap (λ (u : ℕ). v * u) (pow-suc 2 n ∙ mul-comm P 2) ∙ sym (mul-assoc v 2 P) in
+    omega (arith, m, s, add-mul (v * 2) b P)
+
+-- the number that the n low bits of x are, after v
+pub from-nat : (n v x : ℕ) → natFrom v (natBits n x) ≡ v * 2 ^ n + x % 2 ^ n
+unfolding natFrom natBits
+from-nat zero v x = omega arith
+from-nat (suc n) v x = from-nat n (v * 2 + x / 2 ^ n % 2) x ∙ one-more v x n
 
 from-zeros : (v j : ℕ) → natFrom v (replicate j 0) ≡ v * 2 ^ j
 unfolding natFrom

@@ -1,13 +1,11 @@
-// The steps below the public calls, for our own crates. Each asks what its caller has tested.
+// The steps below the public calls, for our own crates. All but `settle` ask what their caller has tested.
 ghost use mathlib.Core.Path.{_≡_};
 ghost use Prim.Native.Nat.{_+_, _*_, _/_, _^_, _≤_, _<_};
 ghost use Rattle.bits.specs.Place.{placeOf};
 ghost use Rattle.bits.specs.Inner.{Settled};
 use crate::Place;
-pub use raw_bits::inner::bit_at;
 pub use raw_bits::inner::field;
 pub use raw_bits::inner::put_bits;
-pub use raw_bits::inner::take_bits;
 pub use raw_bits::inner::word_at;
 
 // The place itself, or the end of a slice of `len` bytes.
@@ -24,10 +22,10 @@ pub fn settle(len: usize, at: Place) -> Place
 
 // The whole bytes that `width` bits from a place on reach into.
 pub fn needed(at: Place, width: u8) -> usize
-    requires { ⌜ (at .byte < 2 ^ 63) × (at .bit < 8) × (width ≤ 64) ⌝ }
+    requires { ⌜ (at .byte < 2 ^ 63) × (at .bit < 8) ⌝ }
     ensures { λ r. ⌜ r ≡ (at .byte * 8 + at .bit + width + 7) / 8 ⌝ }
 {
-    at.byte + ((at.bit + width + 7) / 8) as usize
+    at.byte + (at.bit as usize + width as usize + 7) / 8
 }
 
 // The place `width` bits on.

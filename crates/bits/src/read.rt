@@ -11,11 +11,12 @@ use raw_bits::inner::take_bits;
 pub fn read_bits(s: &[u8], at: Place, width: u8) -> BitsRead
     ensures { λ r. ⌜ toldRead r ≡ readRule (now (s .entry)) at width ⌝ }
 {
+    let p = settle(s.len(), at);
+    let n = needed(p, width);
     if width > 64 {
         return BitsRead::Width;
     }
-    let p = settle(s.len(), at);
-    if s.len() < needed(p, width) {
+    if s.len() < n {
         return BitsRead::Short;
     }
     let v = take_bits(s, p.byte, p.bit, width);

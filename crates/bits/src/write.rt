@@ -10,11 +10,11 @@ use raw_bits::inner::put_bits;
 pub fn write_bits(buf: &mut [u8], at: Place, value: u64, width: u8) -> BitsWritten
     ensures { λ r. ⌜ Writes (now (buf .entry)) at value width r (now (buf .exit)) ⌝ }
 {
+    let p = settle(buf.len(), at);
+    let n = needed(p, width);
     if width > 64 {
         return BitsWritten::Width;
     }
-    let p = settle(buf.len(), at);
-    let n = needed(p, width);
     if buf.len() < n {
         return BitsWritten::Short(n);
     }

@@ -5,20 +5,11 @@ use mathlib.Core.Bool.{cond}
 use mathlib.Core.List.{List}
 use lib.Dec.{eqb}
 use lib.ListN.{getD}
-use Rattle.gorilla.specs.Array.{arrayNo}
 use Rattle.gorilla.specs.declared.Array.{Array}
-use Rattle.gorilla.specs.declared.Array.the-variants.{Sequences, Seconds}
+use Rattle.gorilla.proofs.Unique.{arrayOf, array-back}
 use Rattle.code_reader.specs.Refusal.{told}
 use Rattle.code_reader.specs.declared.Refusal.{Refusal}
 use Rattle.code_reader.specs.declared.Refusal.the-variants.{Empty, Version, Header, CountCut, TooMany, FirstCut, CodeEnd, PrefixCut, DiffCut, CountDiffers}
-
--- the array that a number is
-abbrev arrayOf : ℕ → Array
-arrayOf n = cond (eqb n 0) Sequences Seconds
-
-array-back : (a : Array) → arrayOf (arrayNo a) ≡ a
-array-back Sequences = refl
-array-back Seconds = refl
 
 -- the refusal that a number and what it tells are
 abbrev refusalOf : List ℕ → Refusal

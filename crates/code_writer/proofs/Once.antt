@@ -1,5 +1,5 @@
 -- Bits as one number: a code, and codes joined. Assumes nothing.
-use Prim.Native.Nat.{ℕ, zero, suc, _+_, _*_, _/_, _%_, _^_, _≤_, _<_}
+use Prim.Native.Nat.{ℕ, _+_, _*_, _%_, _^_, _≤_, _<_}
 use mathlib.Core.Path.{_≡_, sym, ap, ap₂, _∙_, subst}
 use mathlib.Core.List.{List, _++_}
 use native.Mathlib.Nat.{mod-eq-of-lt, mod-lt, zero-mul}
@@ -15,23 +15,17 @@ use Rattle.gorilla.specs.Rows.{rowOf}
 use Rattle.bit_lists.specs.BitList.{natBits, natFrom}
 use Rattle.gorilla.specs.Format.{codeBits}
 use Rattle.bit_lists.proofs.Lists.{length-natBits}
-use Rattle.gorilla.proofs.Taking.{one-more}
 use Rattle.gorilla.proofs.Trip.{rows}
-use Rattle.bit_lists.proofs.Packing.{nat-from, from-append, bits-append, bits-natBits}
+use Rattle.bit_lists.proofs.Packing.{nat-from, from-nat, from-append, bits-append, bits-natBits}
 use Rattle.code_writer.specs.declared.Held.{Held}
 use Rattle.code_writer.specs.Inner.{heldBits, Fits}
-
-from-nat : (v n x : ℕ) → natFrom v (natBits n x) ≡ v * 2 ^ n + x % 2 ^ n
-unfolding natFrom natBits
-from-nat v zero x = omega arith
-from-nat v (suc n) x = from-nat (v * 2 + x / 2 ^ n % 2) n x ∙ one-more v x n
 
 pub nat-join : (n w p x : ℕ) → p < 2 ^ n → x < 2 ^ w → natBits (n + w) (p * 2 ^ w + x) ≡ natBits n p ++ natBits w x
 nat-join n w p x h k =
     let l : length (natBits n p ++ natBits w x) ≡ n + w = simp (length-append, length-natBits) in
-    let a : natFrom 0 (natBits n p) ≡ p = from-nat 0 n p ∙ omega (arith, mod-eq-of-lt h, zero-mul (2 ^ n)) in
+    let a : natFrom 0 (natBits n p) ≡ p = from-nat n 0 p ∙ omega (arith, mod-eq-of-lt h, zero-mul (2 ^ n)) in
     let m : natFrom 0 (natBits n p ++ natBits w x) ≡ p * 2 ^ w + x =
-    from-append 0 (natBits n p) (natBits w x) ∙ ap (λ (u : ℕ). natFrom u (natBits w x)) a ∙ from-nat p w x ∙ ap (λ (u : ℕ). p * 2 ^ w + u) (mod-eq-of-lt k) in
+    from-append 0 (natBits n p) (natBits w x) ∙ ap (λ (u : ℕ). natFrom u (natBits w x)) a ∙ from-nat w p x ∙ ap (λ (u : ℕ). p * 2 ^ w + u) (mod-eq-of-lt k) in
     ap₂ natBits (sym l) (sym m) ∙ nat-from 0 (natBits n p ++ natBits w x) (bits-append (natBits n p) (natBits w x) (bits-natBits n p) (bits-natBits w x))
 
 Small : Row → Type 0
@@ -55,7 +49,7 @@ module _ (a b h : Held) (f : Fits a) (g : Fits b) (e : h ≡ record { value = a 
 -- bits above the width are not written
 low-same : (w x : ℕ) → natBits w (x % 2 ^ w) ≡ natBits w x
 low-same w x =
-    let v : natFrom 0 (natBits w x) ≡ x % 2 ^ w = from-nat 0 w x ∙ omega (arith, zero-mul (2 ^ w)) in
+    let v : natFrom 0 (natBits w x) ≡ x % 2 ^ w = from-nat w 0 x ∙ omega (arith, zero-mul (2 ^ w)) in
     ap₂ natBits (sym (length-natBits w x)) (sym v) ∙ nat-from 0 (natBits w x) (bits-natBits w x)
 
 -- prefix and low bits of a row

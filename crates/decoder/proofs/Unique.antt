@@ -28,8 +28,8 @@ pub one-decode : (bytes seqs : List ℕ) (secs : List ℤ) (a b : Decoded) (x y 
 one-decode bytes seqs secs a b x y u v h k = (decode-told a b (h .0 ∙ sym (k .0)), h .1 ∙ sym (k .1), h .2 ∙ sym (k .2))
 
 -- `image_len`
-pub one-len : (bytes : List ℕ) (a b : ImageLen) → toldImageLen a ≡ imageLenRule bytes → toldImageLen b ≡ imageLenRule bytes → a ≡ b
-one-len bytes a b h k = len-told a b (h ∙ sym k)
+pub one-image-len : (bytes : List ℕ) (a b : ImageLen) → toldImageLen a ≡ imageLenRule bytes → toldImageLen b ≡ imageLenRule bytes → a ≡ b
+one-image-len bytes a b h k = len-told a b (h ∙ sym k)
 
 -- `rest`: its bytes, and where they stand, in a caller's bytes at p
 pub one-rest : (bytes : List ℕ) (p : ℕ × ℕ) (x y : List ℕ) (q r : ℕ × ℕ)

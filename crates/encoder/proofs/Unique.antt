@@ -7,8 +7,7 @@ use lib.IntN.{ℤ}
 use Rattle.told.specs.Told.{Told}
 use Rattle.told.proofs.Unique.{given-not-refused, same-list}
 use Rattle.gorilla.specs.Array.{arrayNo}
-use Rattle.gorilla.specs.declared.Array.{Array}
-use Rattle.gorilla.specs.declared.Array.the-variants.{Sequences, Seconds}
+use Rattle.gorilla.proofs.Unique.{array-told}
 use Rattle.encoder.specs.Encode.{told, toldLen, toldEncode, lenRule, Encodes}
 use Rattle.encoder.specs.declared.Refusal.{Refusal}
 use Rattle.encoder.specs.declared.Refusal.the-variants as rv
@@ -16,12 +15,6 @@ use Rattle.encoder.specs.declared.EncodedLen.{EncodedLen}
 use Rattle.encoder.specs.declared.EncodedLen.the-variants as lv
 use Rattle.encoder.specs.declared.Encoded.{Encoded}
 use Rattle.encoder.specs.declared.Encoded.the-variants as ev
-
-pub array-told : (a b : Array) → arrayNo a ≡ arrayNo b → a ≡ b
-array-told Sequences Sequences h = refl
-array-told Sequences Seconds h = absurd (omega arith)
-array-told Seconds Sequences h = absurd (omega arith)
-array-told Seconds Seconds h = refl
 
 -- the numbers of the refusals differ
 abbrev number : List ℕ → ℕ

@@ -8,7 +8,7 @@ use Rattle.gorilla.specs.Format.{imageBytes}
 use Rattle.encoder.specs.Encode.{Encodes, roomRule}
 use Rattle.encoder.specs.declared.Encoded.{Encoded}
 
--- arrays that pass 18 and 19, and the most bytes that an image of so many pairs has
+-- arrays that pass 18 and 19, and a length that no image of so many pairs exceeds
 abbrev pub Measured : List ℕ → List ℤ → ℕ → Type 0
 Measured seqs secs most = (length seqs ≡ length secs) × (length seqs ≤ 65536) × (most ≡ length seqs * 9 + 21)
 

@@ -11,7 +11,7 @@ use lengths::inner::image_bytes;
 // The values that an array to encode may have.
 const MOST: usize = 65536;
 
-// The most bytes that an image of so many pairs has, at 36 bits a code; or 18, 19.
+// A length that no image of so many pairs exceeds, at 36 bits a code; or 18, 19.
 pub fn most_bytes(seqs: &[u64], secs: &[i64]) -> EncodedLen
     ensures { λ r. ⌜ toldLen r ≡ arraysRule (now (seqs .entry)) (now (secs .entry)) (gave (length (now (seqs .entry)) * 9 + 21)) ⌝ }
 {

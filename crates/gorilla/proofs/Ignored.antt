@@ -15,10 +15,9 @@ use Rattle.gorilla.specs.Rows.{widths}
 use Rattle.gorilla.specs.Parser.{Read, read, refused, Reader, andThen, _>>=_, give, require, takeBits, align}
 use Rattle.gorilla.specs.Reading.{countOnes, readCode, readCodes, readValues, readArray, leCount, readPart, Pairs, readPairs}
 use Rattle.gorilla.specs.Ignored.{FollowingIgnored, Padded, PaddingIgnored}
-use Rattle.bit_lists.proofs.Lists.{length-bitsOf}
+use Rattle.bit_lists.proofs.Lists.{length-bitsOf, bitsOf-append}
 use Rattle.gorilla.proofs.Taking.{enough, were-enough}
 use Rattle.gorilla.proofs.Counts.{both}
-use Rattle.gorilla.proofs.ImageTrip.{bitsOf-append}
 
 -- of bs the bits `used` are taken, and read as r with any others after them that may stand for those that are left
 record Taken {A : Type 0} (May : List ℕ → List ℕ → Type 0) (m : Reader A) (bs : List ℕ) (r : A) (left : List ℕ) : Type 0 where

@@ -17,7 +17,7 @@ use Rattle.gorilla.specs.Format.{codeBits, codesBits, valuesBits, arrayB
 use Rattle.gorilla.specs.Reading.{leCount, readPart, readPairs, readImage, valuesAfter}
 use Rattle.gorilla.proofs.Taking.{take-is}
 use Rattle.gorilla.proofs.Trip.{AllFit, received, sentAfter, read-array}
-use Rattle.bit_lists.proofs.Lists.{length-bitsOf}
+use Rattle.bit_lists.proofs.Lists.{length-bitsOf, bitsOf-append}
 use Rattle.bit_lists.proofs.Packing.{AllBits, bits-natBits, bits-append, bits-packed}
 
 -- ---- an array's bits are bits
@@ -40,11 +40,6 @@ unfolding arrayBits
 bits-array xs = bits-append _ _ (bits-natBits 32 (length xs)) (bits-values xs)
 
 -- ---- one array of an image
-pub bitsOf-append : (a b : List ℕ) → bitsOf (a ++ b) ≡ bitsOf a ++ bitsOf b
-unfolding bitsOf
-bitsOf-append [] b = refl
-bitsOf-append (x ∷ a) b = rw (append-assoc) (ap (λ (ys : List ℕ). natBits 8 x ++ ys) (bitsOf-append a b))
-
 pub length-after : (p e : ℤ) (ds : List ℤ) → length (valuesAfter p e ds) ≡ length ds
 unfolding valuesAfter
 length-after p e [] = refl

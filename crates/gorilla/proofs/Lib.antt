@@ -9,3 +9,4 @@ pub mod Readers
 pub mod RoundTrip
 pub mod Counts
 pub mod Ignored
+pub mod Unique

@@ -1,17 +1,17 @@
 -- Bits taken off a list: where there are enough, where there are not, and those that were written. Assumes nothing.
-use Prim.Native.Nat.{ℕ, zero, suc, _+_, _*_, _/_, _%_, _^_, _≤_, _<_}
-use mathlib.Core.Path.{_≡_, refl, sym, ap, ap₂, _∙_}
+use Prim.Native.Nat.{ℕ, _%_, _^_, _≤_, _<_}
+use mathlib.Core.Path.{_≡_, refl, ap, ap₂, _∙_}
 use mathlib.Core.Bool.{Bool, true, false, cond}
 use mathlib.Core.List.{List, _∷_, _++_}
-use native.Mathlib.Nat.{mul-assoc, mul-comm, add-mul, pow-suc, mod-eq-of-lt}
+use native.Mathlib.Nat.{mod-eq-of-lt}
 use native.Mathlib.Omega.{arith}
 use borrow.Author.Tests.{lt-ltb, le-ltb, ltb-false}
 use lib.Dec.{ltb}
 use lib.ListN.{length, take, drop, length-append}
 use lib.Seq.{take-at, drop-at}
-use lib.Pow.{mod-pow-add}
 use Rattle.bit_lists.specs.BitList.{natBits, natFrom}
 use Rattle.bit_lists.proofs.Lists.{length-natBits}
+use Rattle.bit_lists.proofs.Packing.{from-nat}
 use Rattle.gorilla.specs.Parser.{read, refused, takeBits}
 
 module _ (l : List ℕ) (n : ℕ) (bs : List ℕ) where
@@ -40,21 +40,6 @@ no-bits l bs = enough l 0 bs (omega arith)
 pub one-bit : (l : List ℕ) (b : ℕ) (bs : List ℕ) → takeBits 1 l (b ∷ bs) ≡ read b bs
 unfolding natFrom
 one-bit l b bs = enough l 1 (b ∷ bs) (omega arith) ∙ ap (λ (u : ℕ). read u bs) (omega arith)
-
--- a number's highest bit of suc n, then the others
-pub one-more : (v x n : ℕ) → (v * 2 + x / 2 ^ n % 2) * 2 ^ n + x % 2 ^ n ≡ v * 2 ^ suc n + x % 2 ^ suc n
-one-more v x n =
-    let P : ℕ = 2 ^ n in
-    let b : ℕ = x / P % 2 in
-    let e : suc n ≡ 1 + n = omega arith in
-    let m : x % 2 ^ suc n ≡ b * P + x % P = ap (λ (u : ℕ). x % 2 ^ u) e ∙ mod-pow-add x 1 n in
-    let s : v * 2 ^ suc n ≡ v * 2 * P = ap (λ (u : ℕ). v * u) (pow-suc 2 n ∙ mul-comm P 2) ∙ sym (mul-assoc v 2 P) in
-    omega (arith, m, s, add-mul (v * 2) b P)
-
-from-nat : (n v x : ℕ) → natFrom v (natBits n x) ≡ v * 2 ^ n + x % 2 ^ n
-unfolding natFrom natBits
-from-nat zero v x = omega arith
-from-nat (suc n) v x = from-nat n (v * 2 + x / 2 ^ n % 2) x ∙ one-more v x n
 
 pub take-nat : (l : List ℕ) (n x : ℕ) (rest : List ℕ) → takeBits n l (natBits n x ++ rest) ≡ read (x % 2 ^ n) rest
 take-nat l n x rest =

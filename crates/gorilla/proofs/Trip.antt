@@ -15,9 +15,9 @@ use mir.Syntax.{w64}
 use mir.Val.{SFits}
 use mir.Facts.{sfits-toZ}
 use Rattle.gorilla.specs.declared.Row.{Row}
-use Rattle.signed.specs.Signed.{signed, pattern, addW, subW, addS, subS}
+use Rattle.signed.specs.Signed.{signedOf, signed, pattern, addW, subW, addS, subS}
 use Rattle.signed.specs.Inner.{lowBits}
-use Rattle.signed.specs.Extend.{extend, signedOf}
+use Rattle.signed.specs.Extend.{extend}
 use Rattle.gorilla.specs.Rows.{row, rowOf, decoded, strict}
 use Rattle.signed.proofs.Wrapping.{pattern-signed, signed-pattern, addS-subS, sub-add, sub-lt}
 use Rattle.signed.proofs.Widths.{two-halves, read-low, read-high}

@@ -78,15 +78,20 @@ pub record Pairs : Type 0 where
   pub seqs : List ℕ
   pub secs : List ℤ
 
+-- both arrays of an image whose header says n
+abbrev pub readArrays : (ℕ → Bool) → ℕ → Reader Pairs
+readArrays room n = do
+  seqs ← readPart 0 room n
+  secs ← readPart 1 room n
+  give (record { seqs = map pattern seqs; secs = secs })
+
 -- version 1, the pair count, both arrays
 unfoldable pub readPairs : (ℕ → Bool) → Reader Pairs
 readPairs room = do
   v ← takeBits 8 (1 ∷ [])
   require (eqb v 1) (2 ∷ v ∷ [])
   n ← leCount (3 ∷ [])
-  seqs ← readPart 0 room n
-  secs ← readPart 1 room n
-  give (record { seqs = map pattern seqs; secs = secs })
+  readArrays room n
 
 -- an image: its pairs, and the bits of the bytes after it
 abbrev pub readImage : (ℕ → Bool) → List ℕ → Read Pairs

@@ -12,9 +12,9 @@ use Rattle.signed.specs.Signed.{pattern}
 use Rattle.raw_bits.proofs.Bits.{one-byte}
 use Rattle.bit_lists.specs.BitList.{bitsOf}
 use Rattle.gorilla.specs.Parser.{read, refused, takeBits}
-use Rattle.gorilla.specs.Reading.{readPart, leCount, readPairs, readImage}
+use Rattle.gorilla.specs.Reading.{readPart, leCount, readArrays, readPairs, readImage}
 use Rattle.gorilla.proofs.Bridge.{take-at, take-short}
-use Rattle.image_reader.specs.Inner.{readArrays, HeaderCount}
+use Rattle.image_reader.specs.Inner.{HeaderCount}
 
 -- one byte of the header
 byte-at : (l s : List ℕ) (j : ℕ) → j < length s → getD s j 0 < 256 → takeBits 8 l (drop (j * 8) (bitsOf s)) ≡ read (getD s j 0) (drop (j * 8 + 8) (bitsOf s))

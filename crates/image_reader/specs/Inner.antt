@@ -6,20 +6,13 @@ use mathlib.Core.List.{List, [], _∷_, map}
 use lib.ListN.{drop, length}
 use Rattle.signed.specs.Signed.{pattern}
 use Rattle.bit_lists.specs.BitList.{bitsOf}
-use Rattle.gorilla.specs.Parser.{Read, read, refused, Reader, _>>=_, give}
-use Rattle.gorilla.specs.Reading.{Pairs, leCount, readPart, readImage}
+use Rattle.gorilla.specs.Parser.{Read, read, refused}
+use Rattle.gorilla.specs.Reading.{Pairs, leCount, readArrays, readImage}
 use Rattle.code_reader.specs.Refusal.{told}
 use Rattle.array_reader.specs.Inner.{arrayAt, passedAt, Agrees}
 use Rattle.image_reader.specs.declared.image.Parts.{Parts}
 use Rattle.image_reader.specs.declared.image.ImageScan.{ImageScan}
 use Rattle.image_reader.specs.declared.image.ImageScan.the-variants as m
-
--- what follows an image's header: both arrays, of the count n that the header says
-abbrev pub readArrays : (ℕ → Bool) → ℕ → Reader Pairs
-readArrays room n = do
-  seqs ← readPart 0 room n
-  secs ← readPart 1 room n
-  give (record { seqs = map pattern seqs; secs = secs })
 
 -- the pairs whose parts stand in the bytes xs
 abbrev pub pairsAt : List ℕ → Parts → Pairs

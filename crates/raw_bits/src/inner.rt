@@ -1,8 +1,8 @@
-// The steps. Each asks what its caller has tested.
+// The steps. All but `wide` and `least` ask what their caller has tested.
 ghost use mathlib.Core.Path.{_≡_};
 ghost use Prim.Native.Nat.{_+_, _*_, _-_, _/_, _%_, _^_, _≤_, _<_, min};
 ghost use lib.ListN.{length};
-ghost use Rattle.raw_bits.specs.Inner.{bitAt, bitsAt, putBits};
+ghost use Rattle.raw_bits.specs.Inner.{bitsAt, putBits};
 
 fn wide(x: u8) -> u64
     ensures { λ r. ⌜ r ≡ x ⌝ }
@@ -14,14 +14,6 @@ fn least(a: u8, b: u8) -> u8
     ensures { λ r. ⌜ r ≡ min a b ⌝ }
 {
     if a < b { a } else { b }
-}
-
-// One bit.
-pub fn bit_at(s: &[u8], byte: usize, bit: u8) -> u64
-    requires { ⌜ (bit < 8) × (byte < length (now s)) ⌝ }
-    ensures { λ r. ⌜ r ≡ bitAt (now (s .entry)) (byte * 8 + bit) ⌝ }
-{
-    (wide(s[byte]) >> (7 - bit)) % 2
 }
 
 // The `t` bits of `x` above its `low` lowest.

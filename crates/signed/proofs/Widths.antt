@@ -13,10 +13,10 @@ use lib.IntN.{ℤ, pos, negsuc}
 use lib.Signed.{mag, shrZ}
 use mir.Syntax.{w64}
 use mir.Val.{SFits, sel}
-use Rattle.signed.specs.Signed.{signed}
+use Rattle.signed.specs.Signed.{signedOf, signed}
 use Rattle.signed.specs.Inner.{lowBits}
 use Rattle.told.specs.Told.{gave, refused}
-use Rattle.signed.specs.Extend.{signedOf, extend, extendRule}
+use Rattle.signed.specs.Extend.{extend, extendRule}
 
 -- 1 << w
 pub size-is : (w : ℕ) → w < 64 → (1 * 2 ^ w) % 2 ^ 64 ≡ 2 ^ w

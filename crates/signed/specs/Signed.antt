@@ -6,9 +6,12 @@ use lib.IntN.{ℤ, pos, negsuc}
 use mir.Syntax.{w64}
 use mir.Val.{sel, ofZ}
 
--- u below 2^63 stands for itself, any other for u - 2^64; `negsuc n` is -(n + 1)
+-- w bits m as a signed number: m as it stands, less 2^w where the top one of the w bits is set; `negsuc n` is -(n + 1)
+abbrev pub signedOf : ℕ → ℕ → ℤ
+signedOf w m = sel (ltb m (2 ^ (w - 1))) (pos m) (negsuc (2 ^ w - suc m))
+
 abbrev pub signed : ℕ → ℤ
-signed u = sel (ltb u (2 ^ 63)) (pos u) (negsuc (2 ^ 64 - suc u))
+signed u = signedOf 64 u
 
 -- the 64 bits of z: n for n, 2^64 - n for -n
 abbrev pub pattern : ℤ → ℕ

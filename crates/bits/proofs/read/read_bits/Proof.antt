@@ -4,19 +4,20 @@ use Prim.Native.Nat.{_+_, _*_}
 use Rattle.bits.proofs.read.read_bits.Statement.{statement}
 use Rattle.bits.proofs.read.read_bits.Tie as tie
 
-returns : tie.Need-returns
-returns c = read-width _ _ _ (c .if1 .taken)
-
 settle-requires : tie.Need-settle-requires
 settle-requires c κs = search needs
 
 needed-requires : tie.Need-needed-requires
 needed-requires c κs = search needs
 
+returns : tie.Need-returns
+returns c = read-width _ _ _ (c .if1 .taken)
+
 returns-2 : tie.Need-returns-2
 returns-2 c =
-    let p = c .before .before .settle .result in
-    read-short _ _ _ (p .byte * 8 + p .bit) (search needs) (c .before .before .settle .ensures .pos) (search needs)
+    let w = c .before .before .before in
+    let p = w .settle .result in
+    read-short _ _ _ (p .byte * 8 + p .bit) (search needs) (w .settle .ensures .pos) (search needs)
 
 take-bits-requires : tie.Need-take-bits-requires
 take-bits-requires c κs = search needs
@@ -26,17 +27,18 @@ after-requires c κs = search needs
 
 returns-3 : tie.Need-returns-3
 returns-3 c =
-    let p = c .before .before .before .before .settle .result in
-    read-value _ _ _ (p .byte * 8 + p .bit) (search needs) (c .before .before .before .before .settle .ensures .pos) (search needs)
+    let w = c .before .before .before .before .before in
+    let p = w .settle .result in
+    read-value _ _ _ (p .byte * 8 + p .bit) (search needs) (w .settle .ensures .pos) (search needs)
     (c .before .take-bits .ensures) (c .after .ensures)
 
 pub read-bits-spec : {M : Type 1} → statement M
 read-bits-spec =
     tie.close
     (tie.spec
-    returns
     settle-requires
     needed-requires
+    returns
     returns-2
     take-bits-requires
     after-requires

@@ -5,19 +5,21 @@ use Rattle.bits.proofs.Answers.{write-width, write-short, write-done}
 use Rattle.bits.proofs.write.write_bits.Statement.{statement}
 use Rattle.bits.proofs.write.write_bits.Tie as tie
 
-returns : tie.Need-returns
-returns c = write-width _ _ _ _ (c .if1 .taken)
-
 settle-requires : tie.Need-settle-requires
 settle-requires c κs = search needs
 
 needed-requires : tie.Need-needed-requires
 needed-requires c κs = search needs
 
+returns : tie.Need-returns
+returns c = write-width _ _ _ _ (c .if1 .taken)
+
 returns-2 : tie.Need-returns-2
 returns-2 c =
-    let p = c .before .before .settle .result in
-    write-short _ _ _ _ (p .byte * 8 + p .bit) (search needs) (c .before .before .settle .ensures .pos) (search needs) (c .before .needed .ensures)
+    let n = c .before .before in
+    let w = n .before in
+    let p = w .settle .result in
+    write-short _ _ _ _ (p .byte * 8 + p .bit) (search needs) (w .settle .ensures .pos) (search needs) (n .needed .ensures)
 
 put-bits-requires : tie.Need-put-bits-requires
 put-bits-requires c κs = search needs
@@ -30,18 +32,18 @@ same-length c = search needs
 
 returns-3 : tie.Need-returns-3
 returns-3 c =
-    let w = c .before .before .before .before .before .before .before in
+    let w = c .before .before .before .before .before .before .before .before in
     let p = w .settle .result in
-    write-done _ _ _ _ _ (p .byte * 8 + p .bit) (λ j. omega (arith, w .before .before .slice-known .given j)) (search needs) (w .settle .ensures .pos) (search needs)
+    write-done _ _ _ _ _ (p .byte * 8 + p .bit) (λ j. omega (arith, w .before .slice-known .given j)) (search needs) (w .settle .ensures .pos) (search needs)
     (c .after .ensures) (c .before .before .before .put-bits .ensures)
 
 pub write-bits-spec : {M : Type 1} → statement M
 write-bits-spec =
     tie.close
     (tie.spec
-    returns
     settle-requires
     needed-requires
+    returns
     returns-2
     put-bits-requires
     after-requires

@@ -14,8 +14,7 @@ use mir.Facts.{toZ-ofZ}
 use Rattle.signed.specs.Signed.{pattern}
 use Rattle.bit_lists.specs.BitList.{bitsOf}
 use Rattle.gorilla.specs.Parser.{read}
-use Rattle.gorilla.specs.Reading.{readArray, readPart}
-use Rattle.image_reader.specs.Inner.{readArrays}
+use Rattle.gorilla.specs.Reading.{readArray, readPart, readArrays}
 use Rattle.gorilla.specs.declared.Array.the-variants.{Sequences, Seconds}
 use Rattle.array_reader.specs.Inner.{aligned, toldArray, PassedArray, arrayAt, passedAt, Agrees}
 use Rattle.array_reader.proofs.Arrays.{array-length, array-room, part-found, part-differs, part-refused}
