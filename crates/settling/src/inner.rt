@@ -45,7 +45,7 @@ fn last_of(secs: &[i64], n: usize) -> LastRecorded
     LastRecorded::At(Second(secs[n - 1]))
 }
 
-// n where the pairs are good, else 0.
+// How many of n pairs are stored: none where their check refuses them.
 fn if_good(checked: Checked, n: usize) -> usize
     ensures stored { λ r. ⌜ r ≡ countIfGood (toldCheck checked) n ⌝ }
     ensures few { λ r. ⌜ r ≤ n ⌝ }

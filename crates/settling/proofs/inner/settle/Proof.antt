@@ -1,9 +1,6 @@
 use borrow.Author.Needs.{needs}
 use mathlib.Core.Path.{sym, ap, _∙_}
-use Prim.Native.Nat.{ℕ}
-use lib.ListN.{take}
 use Rattle.told.specs.Told.{Told, gave}
-use Rattle.told.specs.Over.{over}
 use Rattle.tracker.specs.Refusal.{toldCheck}
 use Rattle.fresh.specs.Fresh.{freshTable}
 use Rattle.settling.specs.Inner.{countIfGood}
@@ -50,8 +47,8 @@ returns c =
     let good = ap toldCheck (told .enum-told .given .1) in
     let all = counted .if-good .ensures .0 ∙ ap (λ (t : Told (Unit {0})). countIfGood t (a .n)) good in (
       rw (sym (counted .before .pairs .ensures) ∙ good) (ap gave (c .fresh .ensures ∙ ap (freshTable 8192 60 (a .n)) (c .before .last-of .ensures))),
-      seqs-copied .copy-seqs .ensures ∙ ap (λ (k : ℕ). over (take k (a .own-seqs .now)) (a .seqs .now)) all,
-      secs-copied .copy-secs .ensures ∙ ap (λ (k : ℕ). over (take k (a .own-secs .now)) (a .secs .now)) all,
+      simp (seqs-copied .copy-seqs .ensures, all),
+      simp (secs-copied .copy-secs .ensures, all),
     )
 
 same-length-3 : tie.Need-same-length-3
@@ -69,8 +66,8 @@ returns-2 c =
     let bad = ap toldCheck (c .before .checked .given .1) in
     let none = counted .if-good .ensures .0 ∙ ap (λ (t : Told (Unit {0})). countIfGood t (a .n)) bad in (
       rw (sym (counted .before .pairs .ensures) ∙ bad),
-      seqs-copied .copy-seqs .ensures ∙ ap (λ (k : ℕ). over (take k (a .own-seqs .now)) (a .seqs .now)) none,
-      secs-copied .copy-secs .ensures ∙ ap (λ (k : ℕ). over (take k (a .own-secs .now)) (a .secs .now)) none,
+      simp (seqs-copied .copy-seqs .ensures, none),
+      simp (secs-copied .copy-secs .ensures, none),
     )
 
 pub settle-spec : {M : Type 1} → statement M
