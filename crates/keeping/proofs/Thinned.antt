@@ -8,7 +8,8 @@ use borrow.Author.Tests.{le-ltb, lt-ltb}
 use lib.ListN.{length, getD, take, length-append, List·getD-append}
 use lib.Seq.{getD-take, getD-at, length-take-le}
 use Rattle.order.proofs.Bools.{below-or}
-use Rattle.keeping.specs.Keep.{evens, appended, thinned, countWith}
+use Rattle.keeping.specs.Keep.{evens, appended, thinned}
+use Rattle.keeping.specs.Inner.{countWith}
 
 module _ {A : Type 0} where
   pub getD-evens : (d : A) (l : List A) (k : ℕ) → getD (evens l) k d ≡ getD l (k + k) d

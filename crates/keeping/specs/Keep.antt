@@ -1,5 +1,5 @@
 -- What recording a pair leaves of the elements that the table keeps in an array, whatever they are.
-use Prim.Native.Nat.{ℕ, _+_, _/_}
+use Prim.Native.Nat.{ℕ}
 use mathlib.Core.Bool.{cond}
 use mathlib.Core.List.{List, [], _∷_, _++_}
 use lib.Dec.{ltb}
@@ -23,7 +23,3 @@ thinned capacity l = cond (ltb capacity (length l)) (evens l) l
 -- what the table keeps once x is recorded
 abbrev pub keptWith : {A : Type 0} → SequenceTracker → List A → A → List A
 keptWith table xs x = thinned (table .capacity) (appended (table .count) xs x)
-
--- how many those are, of n kept before
-abbrev pub countWith : ℕ → ℕ → ℕ
-countWith capacity n = cond (ltb n capacity) (n + 1) (n / 2 + 1)

@@ -1,10 +1,11 @@
 // Recording one element of a pair in its array. The array may have no place for one more than the capacity, so
-// the even positions move up first, and the new element, where it stays, goes to its last place at once.
+// the elements at even positions first move down to lower places, and the new one, where it stays, goes to its last place at once.
 ghost use mathlib.Core.Path.{_≡_};
 ghost use Prim.Native.Nat.{_≤_, _<_};
 ghost use lib.ListN.{length};
 ghost use Rattle.told.specs.Over.{over};
-ghost use Rattle.keeping.specs.Keep.{appended, thinned, countWith};
+ghost use Rattle.keeping.specs.Keep.{appended, thinned};
+ghost use Rattle.keeping.specs.Inner.{countWith};
 
 // The positions that stay, counted from 0: the first, then every second one.
 const FIRST_KEPT: usize = 0;
@@ -29,7 +30,7 @@ pub fn seq_keep(seqs: &mut [u64], n: usize, capacity: usize, q: u64) -> usize
         j += 1;
         i += STEP;
     }
-    if i == n {
+    if i == n { // n is even: the new one stays
         seqs[j] = q;
     }
     n / 2 + 1
@@ -50,7 +51,7 @@ pub fn sec_keep(secs: &mut [i64], n: usize, capacity: usize, s: i64)
         j += 1;
         i += STEP;
     }
-    if n == i {
+    if i == n {
         secs[j] = s;
     }
 }

@@ -38,16 +38,16 @@ run-good w n i (r ∷ rs) g = go (tells w r) (runOf (afterRecord w r) (counted (
     go (refused what) l h = (g, refl)
 
 -- what is told last
-abbrev pub lastOf : List ℕ → ℕ
-lastOf l = getD l (length l - 1) 0
+abbrev pub lastTold : List ℕ → ℕ
+lastTold l = getD l (length l - 1) 0
 
-last-is : (l : List ℕ) (n : ℕ) → lastOf (l ++ (n ∷ [])) ≡ n
+last-is : (l : List ℕ) (n : ℕ) → lastTold (l ++ (n ∷ [])) ≡ n
 last-is l n = let e : length (l ++ (n ∷ [])) - 1 ≡ length l = omega (arith, length-append l (n ∷ [])) in rw e (getD-append-seam l n [] 0)
 
 -- of m records all were recorded or skipped, or those before the refused position were
 abbrev pub Counted : ℕ → Told Log → Type 0
 Counted m (gave (done t n)) = total n ≡ m
-Counted m (gave (stopped what t n)) = (lastOf what ≡ total n) × (total n < m)
+Counted m (gave (stopped what t n)) = (lastTold what ≡ total n) × (total n < m)
 Counted m (refused what) = ⊥
 
 pub run-counted : (w : Table) (n : Tally) (i : ℕ) (rs : List TrackedSeq) → total n ≡ i → Counted (i + length rs) (runOf w n i rs .answer)

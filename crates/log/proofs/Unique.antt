@@ -14,12 +14,12 @@ use Rattle.tracker.proofs.Unique.{undone, refusalOf}
 use Rattle.offers.specs.Whole.{Left, Leaves}
 use Rattle.offers.proofs.Unique.{one-left}
 use Rattle.log.specs.Log.{Log, done, stopped, toldLog}
-use Rattle.log.proofs.Preserved.{lastOf}
+use Rattle.log.proofs.Preserved.{lastTold}
 use Rattle.log.specs.declared.Logged.{Logged}
 use Rattle.log.specs.declared.Logged.the-variants.{Done, Stopped, Refused, OwnRefused, OtherRefused, LengthsDiffer}
 
 -- a position told last, and the refusal before it
-last-back : (why : Refusal) (n : ℕ) → (refusalOf (told why ++ (n ∷ [])) ≡ why) × (lastOf (told why ++ (n ∷ [])) ≡ n)
+last-back : (why : Refusal) (n : ℕ) → (refusalOf (told why ++ (n ∷ [])) ≡ why) × (lastTold (told why ++ (n ∷ [])) ≡ n)
 last-back (SequenceDrops i) n = (refl, refl)
 last-back (SecondDrops i) n = (refl, refl)
 last-back (SecondOutside i) n = (refl, refl)
@@ -33,11 +33,11 @@ refusedOf : List ℕ → Logged
 refusedOf l =
     cond (eqb (getD l 0 0) 18) LengthsDiffer
     (cond (eqb (length l) (length (told (refusalOf l)))) (Refused (refusalOf l))
-    (cond (eqb (lastOf l) 0) (OwnRefused (refusalOf l)) (OtherRefused (refusalOf l))))
+    (cond (eqb (lastTold l) 0) (OwnRefused (refusalOf l)) (OtherRefused (refusalOf l))))
 
 loggedOf : Told Log → Logged
 loggedOf (gave (done table n)) = Done table n
-loggedOf (gave (stopped l table n)) = Stopped (lastOf l) (refusalOf l) table n
+loggedOf (gave (stopped l table n)) = Stopped (lastTold l) (refusalOf l) table n
 loggedOf (refused l) = refusedOf l
 
 -- the answer can be had back from what is told

@@ -60,6 +60,7 @@ pub fn step(seqs: &mut [u64], secs: &mut [i64], p: Progress, pair: TrackedSeq) -
 {
     let table = p.table;
     let tally = p.tally;
+    let end = p.end;
     match offer::offer_good(table, seqs, secs, pair.seq, pair.ts) {
         Offered::Recorded(grown) => {
             let recorded = tally.recorded + 1;
@@ -69,7 +70,7 @@ pub fn step(seqs: &mut [u64], secs: &mut [i64], p: Progress, pair: TrackedSeq) -
                     recorded: recorded,
                     skipped: tally.skipped,
                 },
-                p.end,
+                end,
             )
         }
         Offered::Skipped => {
@@ -80,7 +81,7 @@ pub fn step(seqs: &mut [u64], secs: &mut [i64], p: Progress, pair: TrackedSeq) -
                     recorded: tally.recorded,
                     skipped: skipped,
                 },
-                p.end,
+                end,
             )
         }
         Offered::Refused(why) => stopped(table, tally, why),

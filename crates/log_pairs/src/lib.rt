@@ -45,7 +45,8 @@ pub fn extend_from(
         (toldLog r) (now (seqs .exit)) (now (secs .exit)) ⌝ }
 {
     let n = other.count;
-    match check(table, seqs, secs) {
+    let own = check(table, seqs, secs);
+    match own {
         Checked::Good => match check(other, other_seqs, other_secs) {
             Checked::Good => pairs_good(table, seqs, secs, other_seqs, other_secs, n),
             Checked::Refused(why) => Logged::OtherRefused(why),

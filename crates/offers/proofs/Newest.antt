@@ -16,7 +16,8 @@ use Rattle.tracker.specs.declared.SequenceTracker.{SequenceTracker}
 use Rattle.order.proofs.Bools.{below-or}
 use Rattle.tracker.proofs.Good.{Agreed, fine, count-seqs, count-secs}
 use Rattle.offers.specs.Whole.{whole}
-use Rattle.keeping.specs.Keep.{appended, thinned, countWith}
+use Rattle.keeping.specs.Keep.{appended, thinned}
+use Rattle.keeping.specs.Inner.{countWith}
 use Rattle.offers.specs.Offer.{recorded, offerTo, offeredTo}
 use Rattle.keeping.proofs.Thinned.{getD-evens, appended-new, thinned-not, thinned-evens}
 use Rattle.offers.proofs.Preserved.{taken, recorded-seqs, recorded-secs, recorded-count}

@@ -28,7 +28,8 @@ use Rattle.order.proofs.Bools.{other, true-false, below-or, not-given, passed}
 use Rattle.tracker.proofs.Good.{Fine, fine, fine-again, room-is, count-seqs, count-secs}
 use Rattle.order.proofs.Order.{nat-order, int-order, further}
 use Rattle.offers.specs.Whole.{whole, checkIn}
-use Rattle.keeping.specs.Keep.{keptWith, countWith}
+use Rattle.keeping.specs.Keep.{keptWith}
+use Rattle.keeping.specs.Inner.{countWith}
 use Rattle.offers.specs.Offer.{Outcome, recorded, skipped, tooSoon, lowSeq, stateWith, offerTo, offeredTo}
 use Rattle.keeping.proofs.Thinned.{appended-old, appended-new, thinned-length}
 use Rattle.offers.proofs.Rise.{over-length, selected, kept-sorted, kept-below}

@@ -12,7 +12,8 @@ use Rattle.told.specs.Over.{over}
 use Rattle.order.specs.Order.{drops}
 use Rattle.order.proofs.Bools.{below-or}
 use Rattle.order.proofs.Order.{Order, rises, itself}
-use Rattle.keeping.specs.Keep.{evens, appended, thinned, countWith}
+use Rattle.keeping.specs.Keep.{evens, appended, thinned}
+use Rattle.keeping.specs.Inner.{countWith}
 use Rattle.keeping.proofs.Thinned.{getD-evens, length-evens, appended-length, appended-old, appended-new, thinned-not, thinned-evens}
 
 -- the array keeps its length

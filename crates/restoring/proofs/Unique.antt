@@ -4,16 +4,13 @@ use Prim.Native.Nat.{ℕ, _≤_, _<_}
 use mathlib.Core.Path.{_≡_, sym, ap, _∙_}
 use mathlib.Core.List.{List}
 use native.Mathlib.Omega.{arith}
-use lib.ListN.{getD}
 use lib.IntN.{ℤ}
 use Rattle.told.specs.Told.{Told, refused}
 use Rattle.told.specs.Over.{filled}
 use Rattle.gorilla.specs.Reading.{pairsRead}
 use Rattle.told.proofs.Unique.{given-not-refused, same-list, same-gift}
 use Rattle.tracker.specs.Refusal.{told}
-use Rattle.tracker.specs.declared.Refusal.{Refusal}
-use Rattle.tracker.specs.declared.Refusal.the-variants as tv
-use Rattle.tracker.proofs.Unique.{undone, refusalOf, refusal-back}
+use Rattle.tracker.proofs.Unique.{number, table-number, apart, table-told}
 use Rattle.code_reader.specs.Refusal as reader
 use Rattle.code_reader.specs.declared.Refusal as dec
 use Rattle.code_reader.specs.declared.Refusal.the-variants as dv
@@ -21,19 +18,6 @@ use Rattle.code_reader.proofs.Unique.{one-refusal}
 use Rattle.restoring.specs.Restore.{toldRestore, readTable, Restores}
 use Rattle.restoring.specs.declared.Restored.{Restored}
 use Rattle.restoring.specs.declared.Restored.the-variants as rv
-
--- a refusal's number
-abbrev number : List ℕ → ℕ
-number l = getD l 0 0
-
-table-number : (r : Refusal) → (11 ≤ number (told r)) × (number (told r) ≤ 17)
-table-number tv.Disagrees = omega arith
-table-number (tv.SequenceDrops i) = omega arith
-table-number (tv.SecondDrops i) = omega arith
-table-number (tv.SecondOutside i) = omega arith
-table-number tv.Settings = omega arith
-table-number tv.OfferedOutside = omega arith
-table-number tv.OfferedDrops = omega arith
 
 reader-number : (r : dec.Refusal) → number (reader.told r) ≤ 10
 reader-number dv.Empty = omega arith
@@ -46,13 +30,6 @@ reader-number (dv.CodeEnd a i) = omega arith
 reader-number (dv.PrefixCut a i) = omega arith
 reader-number (dv.DiffCut a i w) = omega arith
 reader-number (dv.CountDiffers a) = omega arith
-
--- refusals of two layers are two
-apart : {X : Type 0} {A : Type 0} (k l : List ℕ) → number k < number l → _≡_ {A = Told A} (refused k) (refused l) → X
-apart k l h e = let f : number k ≡ number l = ap number (same-list e) in absurd (omega arith)
-
-table-told : (a b : Refusal) → told a ≡ told b → a ≡ b
-table-told a b h = undone told refusalOf refusal-back a b h
 
 restore-told : (a b : Restored) → toldRestore a ≡ toldRestore b → a ≡ b
 restore-told (rv.Table t) (rv.Table u) h = ap rv.Table (same-gift h)

@@ -4,16 +4,13 @@ use Prim.Native.Nat.{ℕ, _≤_, _<_}
 use mathlib.Core.Path.{_≡_, sym, ap, _∙_}
 use mathlib.Core.List.{List}
 use native.Mathlib.Omega.{arith}
-use lib.ListN.{getD}
 use lib.IntN.{ℤ}
 use Rattle.told.specs.Told.{Told, refused}
 use Rattle.told.specs.Over.{filled}
 use Rattle.told.proofs.Unique.{given-not-refused, same-list, same-gift}
 use Rattle.tracker.specs.Refusal.{told}
 use Rattle.tracker.specs.declared.SequenceTracker.{SequenceTracker}
-use Rattle.tracker.specs.declared.Refusal.{Refusal}
-use Rattle.tracker.specs.declared.Refusal.the-variants as tv
-use Rattle.tracker.proofs.Unique.{undone, refusalOf, refusal-back}
+use Rattle.tracker.proofs.Unique.{number, table-number, apart, table-told}
 use Rattle.encoder.specs.Encode as encoder
 use Rattle.encoder.specs.declared.Refusal as enc
 use Rattle.encoder.specs.declared.Refusal.the-variants as ev
@@ -22,31 +19,11 @@ use Rattle.saving.specs.Save.{toldSave, keptImage, Saves}
 use Rattle.saving.specs.declared.Saved.{Saved}
 use Rattle.saving.specs.declared.Saved.the-variants as sv
 
--- a refusal's number
-abbrev number : List ℕ → ℕ
-number l = getD l 0 0
-
-table-number : (r : Refusal) → (11 ≤ number (told r)) × (number (told r) ≤ 17)
-table-number tv.Disagrees = omega arith
-table-number (tv.SequenceDrops i) = omega arith
-table-number (tv.SecondDrops i) = omega arith
-table-number (tv.SecondOutside i) = omega arith
-table-number tv.Settings = omega arith
-table-number tv.OfferedOutside = omega arith
-table-number tv.OfferedDrops = omega arith
-
 encoder-number : (r : enc.Refusal) → 18 ≤ number (encoder.told r)
 encoder-number ev.LengthsDiffer = omega arith
 encoder-number ev.TooMany = omega arith
 encoder-number (ev.Wide a i) = omega arith
 encoder-number (ev.Room n) = omega arith
-
--- refusals of two layers are two
-apart : {X : Type 0} {A : Type 0} (k l : List ℕ) → number k < number l → _≡_ {A = Told A} (refused k) (refused l) → X
-apart k l h e = let f : number k ≡ number l = ap number (same-list e) in absurd (omega arith)
-
-table-told : (a b : Refusal) → told a ≡ told b → a ≡ b
-table-told a b h = undone told refusalOf refusal-back a b h
 
 save-told : (a b : Saved) → toldSave a ≡ toldSave b → a ≡ b
 save-told (sv.Written n) (sv.Written m) h = ap sv.Written (same-gift h)

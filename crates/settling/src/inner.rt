@@ -3,8 +3,9 @@ ghost use mathlib.Core.Path.{_≡_};
 ghost use Prim.Native.Nat.{_≤_};
 ghost use lib.ListN.{length, take};
 ghost use Rattle.told.specs.Over.{over};
+ghost use Rattle.tracker.specs.Refusal.{toldCheck};
 ghost use Rattle.settling.specs.Settle.{lastOf};
-ghost use Rattle.settling.specs.Inner.{Settles};
+ghost use Rattle.settling.specs.Inner.{countIfGood, Settles};
 use tracker::Checked;
 use tracker::LastRecorded;
 use tracker::Made;
@@ -44,7 +45,19 @@ fn last_of(secs: &[i64], n: usize) -> LastRecorded
     LastRecorded::At(Second(secs[n - 1]))
 }
 
-// What restore does once n pairs are read into arrays of its own. No lent place changes before the pairs are judged.
+// How many of n pairs are stored: none where their check refuses them.
+fn if_good(checked: Checked, n: usize) -> usize
+    ensures stored { λ r. ⌜ r ≡ countIfGood (toldCheck checked) n ⌝ }
+    ensures few { λ r. ⌜ r ≤ n ⌝ }
+{
+    match checked {
+        Checked::Good => n,
+        Checked::Refused(_) => 0,
+    }
+}
+
+// What restore does once n pairs are read into arrays of its own. The pairs are judged first, and if they are
+// refused none is stored.
 pub fn settle(
     seqs: &mut [u64],
     secs: &mut [i64],
@@ -56,10 +69,11 @@ pub fn settle(
     ensures { λ r. ⌜ Settles n (now («own_seqs» .entry)) (now («own_secs» .entry)) (now (seqs .entry)) (now (secs .entry)) r (now (seqs .exit)) (now (secs .exit)) ⌝ }
 {
     let checked = inner::pairs(own_seqs, own_secs, n);
+    let stored = if_good(checked, n);
+    copy_seqs(seqs, own_seqs, stored);
+    copy_secs(secs, own_secs, stored);
     match checked {
         Checked::Good => {
-            copy_seqs(seqs, own_seqs, n);
-            copy_secs(secs, own_secs, n);
             let last = last_of(own_secs, n);
             Made::Table(fresh::inner::fresh(
                 fresh::DEFAULT_CAPACITY,

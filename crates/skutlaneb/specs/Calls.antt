@@ -22,17 +22,17 @@ use Rattle.table_answers.specs.Table.{ofTable, ofOffer, ofLog}
 use Rattle.table_answers.specs.declared.TableAnswer.{TableAnswer}
 
 -- an encoder by its rule
-abbrev pub Encodes : (List ℕ → List ℤ → ℕ → Told ℕ) → List ℕ → List ℤ → List ℕ → Answer → List ℕ → Type 0
-Encodes rule seqs secs out r out′ = (r ≡ ofCount (rule seqs secs (length out))) × (out′ ≡ filled (rule seqs secs (length out)) (imageBytes seqs secs) out)
+abbrev pub SkutEncodes : (List ℕ → List ℤ → ℕ → Told ℕ) → List ℕ → List ℤ → List ℕ → Answer → List ℕ → Type 0
+SkutEncodes rule seqs secs out r out′ = (r ≡ ofCount (rule seqs secs (length out))) × (out′ ≡ filled (rule seqs secs (length out)) (imageBytes seqs secs) out)
 
 -- a save by its rule
-abbrev pub Saves : (SequenceTracker → List ℕ → List ℤ → ℕ → Told ℕ) → State → List ℕ → List ℤ → List ℕ → Answer → List ℕ → Type 0
-Saves rule s seqs secs out r out′ =
+abbrev pub SkutSaves : (SequenceTracker → List ℕ → List ℤ → ℕ → Told ℕ) → State → List ℕ → List ℤ → List ℕ → Answer → List ℕ → Type 0
+SkutSaves rule s seqs secs out r out′ =
     (r ≡ ofCount (rule (tableOf s) seqs secs (length out)))
     × (out′ ≡ filled (rule (tableOf s) seqs secs (length out)) (keptImage (tableOf s) seqs secs) out)
 
-abbrev pub Restores : List ℕ → List ℕ → List ℤ → TableAnswer → List ℕ → List ℤ → Type 0
-Restores bytes seqs secs r seqs′ secs′ =
+abbrev pub SkutRestores : List ℕ → List ℕ → List ℤ → TableAnswer → List ℕ → List ℤ → Type 0
+SkutRestores bytes seqs secs r seqs′ secs′ =
     (r ≡ ofTable (restoreOf bytes seqs secs))
     × (seqs′ ≡ filled (restoreOf bytes seqs secs) (pairsRead (readTable bytes) .seqs) seqs)
     × (secs′ ≡ filled (restoreOf bytes seqs secs) (pairsRead (readTable bytes) .secs) secs)
@@ -44,11 +44,11 @@ Crosses of left r seqs secs = Leaves (record { answer = of (left .answer); table
 abbrev pub tableIn : State → List ℕ → List ℤ → Table
 tableIn s seqs secs = whole (tableOf s) seqs secs
 
-abbrev pub Offers : State → List ℕ → List ℤ → ℕ → ℤ → TableAnswer → List ℕ → List ℤ → Type 0
-Offers s seqs secs seq sec = Crosses (ofOffer (tableOf s)) (offering (tableIn s seqs secs) (record { 0 = seq }) (record { 0 = sec }))
+abbrev pub SkutOffers : State → List ℕ → List ℤ → ℕ → ℤ → TableAnswer → List ℕ → List ℤ → Type 0
+SkutOffers s seqs secs seq sec = Crosses (ofOffer (tableOf s)) (offering (tableIn s seqs secs) (record { 0 = seq }) (record { 0 = sec }))
 
-abbrev pub OffersPairs : State → List ℕ → List ℤ → List ℕ → List ℤ → TableAnswer → List ℕ → List ℤ → Type 0
-OffersPairs s seqs secs fromSeqs fromSecs = Crosses ofLog (pairsLogOf (tableIn s seqs secs) fromSeqs fromSecs)
+abbrev pub SkutOffersPairs : State → List ℕ → List ℤ → List ℕ → List ℤ → TableAnswer → List ℕ → List ℤ → Type 0
+SkutOffersPairs s seqs secs fromSeqs fromSecs = Crosses ofLog (pairsLogOf (tableIn s seqs secs) fromSeqs fromSecs)
 
-abbrev pub Extends : State → List ℕ → List ℤ → State → List ℕ → List ℤ → TableAnswer → List ℕ → List ℤ → Type 0
-Extends s seqs secs other otherSeqs otherSecs = Crosses ofLog (extendOf (tableIn s seqs secs) (tableIn other otherSeqs otherSecs))
+abbrev pub SkutExtends : State → List ℕ → List ℤ → State → List ℕ → List ℤ → TableAnswer → List ℕ → List ℤ → Type 0
+SkutExtends s seqs secs other otherSeqs otherSecs = Crosses ofLog (extendOf (tableIn s seqs secs) (tableIn other otherSeqs otherSecs))

@@ -3,7 +3,7 @@ ghost use mathlib.Core.Path.{_≡_};
 ghost use Rattle.encoder.specs.Encode as encoding;
 ghost use Rattle.decoder.specs.Decode as decoding;
 ghost use Rattle.answers.specs.Answer.{ofCount};
-ghost use Rattle.skutlaneb.specs.Calls.{Encodes};
+ghost use Rattle.skutlaneb.specs.Calls.{SkutEncodes};
 use answers::Answer;
 use call_answers::inner as calls;
 
@@ -18,7 +18,7 @@ pub extern "C" fn skut_encoded_len(seqs: &[u64], secs: &[i64]) -> Answer
 // Gives the bytes written.
 #[no_mangle]
 pub extern "C" fn skut_encode(seqs: &[u64], secs: &[i64], out: &mut [u8]) -> Answer
-    ensures { λ r. ⌜ Encodes encoding.encodeRule (now (seqs .entry)) (now (secs .entry)) (now (out .entry)) r (now (out .exit)) ⌝ }
+    ensures { λ r. ⌜ SkutEncodes encoding.encodeRule (now (seqs .entry)) (now (secs .entry)) (now (out .entry)) r (now (out .exit)) ⌝ }
 {
     calls::of_encoded(encoder::encode(seqs, secs, out))
 }
@@ -26,7 +26,7 @@ pub extern "C" fn skut_encode(seqs: &[u64], secs: &[i64], out: &mut [u8]) -> Ans
 // Gives the bytes written.
 #[no_mangle]
 pub extern "C" fn skut_encode_strict(seqs: &[u64], secs: &[i64], out: &mut [u8]) -> Answer
-    ensures { λ r. ⌜ Encodes encoding.strictRule (now (seqs .entry)) (now (secs .entry)) (now (out .entry)) r (now (out .exit)) ⌝ }
+    ensures { λ r. ⌜ SkutEncodes encoding.strictRule (now (seqs .entry)) (now (secs .entry)) (now (out .entry)) r (now (out .exit)) ⌝ }
 {
     calls::of_encoded(encoder::encode_strict(seqs, secs, out))
 }

@@ -1,6 +1,6 @@
 // A table saved as an image, and restored from one.
 ghost use Rattle.saving.specs.Save.{saveOf, saveStrictOf};
-ghost use Rattle.skutlaneb.specs.Calls.{Saves, Restores};
+ghost use Rattle.skutlaneb.specs.Calls.{SkutSaves, SkutRestores};
 use answers::Answer;
 use call_answers::inner as calls;
 use states::State;
@@ -10,7 +10,7 @@ use table_answers::inner as tables;
 // Gives the bytes written.
 #[no_mangle]
 pub extern "C" fn skut_save(state: State, seqs: &[u64], secs: &[i64], out: &mut [u8]) -> Answer
-    ensures { λ r. ⌜ Saves saveOf state (now (seqs .entry)) (now (secs .entry)) (now (out .entry)) r (now (out .exit)) ⌝ }
+    ensures { λ r. ⌜ SkutSaves saveOf state (now (seqs .entry)) (now (secs .entry)) (now (out .entry)) r (now (out .exit)) ⌝ }
 {
     let table = states::inner::table_of(state);
     calls::of_saved(saving::save(table, seqs, secs, out))
@@ -24,7 +24,7 @@ pub extern "C" fn skut_save_strict(
     secs: &[i64],
     out: &mut [u8],
 ) -> Answer
-    ensures { λ r. ⌜ Saves saveStrictOf state (now (seqs .entry)) (now (secs .entry)) (now (out .entry)) r (now (out .exit)) ⌝ }
+    ensures { λ r. ⌜ SkutSaves saveStrictOf state (now (seqs .entry)) (now (secs .entry)) (now (out .entry)) r (now (out .exit)) ⌝ }
 {
     let table = states::inner::table_of(state);
     calls::of_saved(saving::save_strict(table, seqs, secs, out))
@@ -33,7 +33,7 @@ pub extern "C" fn skut_save_strict(
 // Needs 130 KB of stack: two arrays of 8,192 are its own.
 #[no_mangle]
 pub extern "C" fn skut_restore(bytes: &[u8], seqs: &mut [u64], secs: &mut [i64]) -> TableAnswer
-    ensures { λ r. ⌜ Restores (now (bytes .entry)) (now (seqs .entry)) (now (secs .entry)) r (now (seqs .exit)) (now (secs .exit)) ⌝ }
+    ensures { λ r. ⌜ SkutRestores (now (bytes .entry)) (now (seqs .entry)) (now (secs .entry)) r (now (seqs .exit)) (now (secs .exit)) ⌝ }
 {
     tables::of_restored(restoring::restore(bytes, seqs, secs))
 }

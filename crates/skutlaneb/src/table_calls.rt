@@ -7,7 +7,7 @@ ghost use Rattle.lookup.specs.Find.{findTs, findSeq};
 ghost use Rattle.answers.specs.Answer.{ofCheck, ofTs, ofSeq};
 ghost use Rattle.states.specs.State.{tableOf, roundOf};
 ghost use Rattle.table_answers.specs.Table.{ofTable};
-ghost use Rattle.skutlaneb.specs.Calls.{Offers, OffersPairs, Extends};
+ghost use Rattle.skutlaneb.specs.Calls.{SkutOffers, SkutOffersPairs, SkutExtends};
 use answers::Answer;
 use call_answers::inner as calls;
 use states::State;
@@ -50,7 +50,7 @@ pub extern "C" fn skut_offer(
     seq: u64,
     sec: i64,
 ) -> TableAnswer
-    ensures { λ r. ⌜ Offers state (now (seqs .entry)) (now (secs .entry)) seq sec r (now (seqs .exit)) (now (secs .exit)) ⌝ }
+    ensures { λ r. ⌜ SkutOffers state (now (seqs .entry)) (now (secs .entry)) seq sec r (now (seqs .exit)) (now (secs .exit)) ⌝ }
 {
     let table = states::inner::table_of(state);
     let offered = offers::offer(table, seqs, secs, Seq(seq), Second(sec));
@@ -66,7 +66,7 @@ pub extern "C" fn skut_offer_pairs(
     from_seqs: &[u64],
     from_secs: &[i64],
 ) -> TableAnswer
-    ensures { λ r. ⌜ OffersPairs state (now (seqs .entry)) (now (secs .entry)) (now («from_seqs» .entry)) (now («from_secs» .entry))
+    ensures { λ r. ⌜ SkutOffersPairs state (now (seqs .entry)) (now (secs .entry)) (now («from_seqs» .entry)) (now («from_secs» .entry))
         r (now (seqs .exit)) (now (secs .exit)) ⌝ }
 {
     let table = states::inner::table_of(state);
@@ -83,7 +83,7 @@ pub extern "C" fn skut_extend_from(
     other_seqs: &[u64],
     other_secs: &[i64],
 ) -> TableAnswer
-    ensures { λ r. ⌜ Extends state (now (seqs .entry)) (now (secs .entry)) other (now («other_seqs» .entry)) (now («other_secs» .entry))
+    ensures { λ r. ⌜ SkutExtends state (now (seqs .entry)) (now (secs .entry)) other (now («other_seqs» .entry)) (now («other_secs» .entry))
         r (now (seqs .exit)) (now (secs .exit)) ⌝ }
 {
     let table = states::inner::table_of(state);

@@ -19,7 +19,7 @@ use Rattle.order.proofs.Bools.{not-given}
 use Rattle.encoder.specs.Encode.{roomRule}
 use Rattle.decoder.specs.Decode.{listed}
 use Rattle.offers.specs.Whole.{Table}
-use Rattle.theorems.specs.Run.{Reload, Lent, keptIn, imageFor, strictTo, saveTo, readBack, ReadsOthers}
+use Rattle.theorems.specs.Run.{Reload, Lent, keptIn, imageFor, strictTo, saveTo, listedFor, ReadsOthers}
 use Rattle.theorems.proofs.Sound.{Sound}
 use Rattle.theorems.proofs.Reload.{kept-fit, seqs-long, at-most, save-is, wrote}
 
@@ -32,7 +32,7 @@ module _ (w : Table) (S : Sound w) (l : Reload) (lent : Lent (l .seqs) (l .secs)
   unfolding roomRule
   strict-is = save-is w S (l .out) ∙ rw (le-ltb (length (l .out)) (length (imageFor w)) room)
 
-  comes-back : readBack w l ≡ read (receivedPairs (keptIn w)) (bitsOf (l .following))
+  comes-back : listedFor w l ≡ read (receivedPairs (keptIn w)) (bitsOf (l .following))
   unfolding listed
   comes-back =
       rw (plain-is, take-at (imageFor w) (drop (length (imageFor w)) (l .out)) (length (imageFor w)) refl)
@@ -40,7 +40,7 @@ module _ (w : Table) (S : Sound w) (l : Reload) (lent : Lent (l .seqs) (l .secs)
       (le-leb (length (keptIn w .seqs)) (min (length (l .seqs)) (length (l .secs))) (omega (arith, seqs-long w S, at-most w S, lent .0, lent .1))))
 
   -- what reads back is the kept pairs exactly where no difference is wide
-  same-back : (p : Pairs) → readBack w l ≡ read p (bitsOf (l .following)) → (p ≡ keptIn w) ↔ (wideOf (keptIn w .seqs) (keptIn w .secs) ≡ gave tt)
+  same-back : (p : Pairs) → listedFor w l ≡ read p (bitsOf (l .following)) → (p ≡ keptIn w) ↔ (wideOf (keptIn w .seqs) (keptIn w .secs) ≡ gave tt)
   same-back p e =
       let k : read p (bitsOf (l .following)) ≡ read (receivedPairs (keptIn w)) (bitsOf (l .following)) = sym e ∙ comes-back in
       let j : p ≡ receivedPairs (keptIn w) = cc in
@@ -69,7 +69,7 @@ module _ (w : Table) (S : Sound w) (l : Reload) (lent : Lent (l .seqs) (l .secs)
       go (gave tt) z h = absurd (not-given what (length (imageFor w)) (sym h))
       go (refused l) z h = number-20 (keptIn w .seqs) (keptIn w .secs) what (z ∙ ap refused (same-list h))
 
-  pub writes : (strictTo w (l .out) ≡ gave (length (imageFor w))) ↔ (readBack w l ≡ read (keptIn w) (bitsOf (l .following)))
+  pub writes : (strictTo w (l .out) ≡ gave (length (imageFor w))) ↔ (listedFor w l ≡ read (keptIn w) (bitsOf (l .following)))
   writes = (
     λ e. comes-back ∙ ap (λ (p : Pairs). read p (bitsOf (l .following))) (exact (keptIn w) (kept-fit w S) .0 (wrote w S (l .out) (length (imageFor w)) e .0)),
     λ e. let z = same-back (keptIn w) e .0 refl in strict-is ∙ rw z,

@@ -55,13 +55,13 @@ abbrev pub imageFor : Table → List ℕ
 imageFor w = keptImage (w .state) (w .seqs) (w .secs)
 
 -- the bytes written to a buffer: as many as are told
-abbrev pub written : Told ℕ → List ℕ → List ℕ
-written (gave n) out = take n out
-written (refused what) out = []
+abbrev pub bytesWritten : Told ℕ → List ℕ → List ℕ
+bytesWritten (gave n) out = take n out
+bytesWritten (refused what) out = []
 
 -- the bytes that such a save writes, and others after them
 abbrev pub stored : (Table → List ℕ → Told ℕ) → Table → Reload → List ℕ
-stored save w l = written (save w (l .out)) (filled (save w (l .out)) (imageFor w) (l .out)) ++ l .following
+stored save w l = bytesWritten (save w (l .out)) (filled (save w (l .out)) (imageFor w) (l .out)) ++ l .following
 
 -- what `restore` tells of what a strict save wrote
 abbrev pub restoreTo : Table → Reload → Told SequenceTracker
@@ -124,12 +124,12 @@ SameLog l m = (l .answer ≡ m .answer) × (keptIn (l .table) ≡ keptIn (m .tab
 -- ---- when a strict save is refused
 
 -- what the list reader reads of what the Rust's save wrote
-abbrev pub readBack : Table → Reload → Read Pairs
-readBack w l = listed (stored saveTo w l) (l .seqs) (l .secs)
+abbrev pub listedFor : Table → Reload → Read Pairs
+listedFor w l = listed (stored saveTo w l) (l .seqs) (l .secs)
 
 -- other pairs than those that the table keeps
 abbrev pub ReadsOthers : Table → Reload → Type 0
-ReadsOthers w l = (p : Pairs) × (readBack w l ≡ read p (bitsOf (l .following))) × (p ≡ keptIn w → ⊥)
+ReadsOthers w l = (p : Pairs) × (listedFor w l ≡ read p (bitsOf (l .following))) × (p ≡ keptIn w → ⊥)
 
 -- ---- the demand
 
@@ -159,7 +159,7 @@ pub record Unharmed (w v : Table) : Type 0 where
   pub exact : (l : Reload) → length (imageFor w) ≤ length (l .out) → Lent (l .seqs) (l .secs)
       → (((what : List ℕ) × (strictTo w (l .out) ≡ refused what)) ↔ ReadsOthers w l)
       × ((what : List ℕ) → strictTo w (l .out) ≡ refused what → getD what 0 0 ≡ 20)
-      × ((strictTo w (l .out) ≡ gave (length (imageFor w))) ↔ (readBack w l ≡ read (keptIn w) (bitsOf (l .following))))
+      × ((strictTo w (l .out) ≡ gave (length (imageFor w))) ↔ (listedFor w l ≡ read (keptIn w) (bitsOf (l .following))))
 
 -- from a new table in any two such arrays, by any events: each offer is told what it is told without the saves and restores, and the table is unharmed
 abbrev pub Demand : Type 0

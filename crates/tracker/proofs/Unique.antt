@@ -1,11 +1,14 @@
--- No second answer fits a statement: the answer can be had back from what is told.
+-- No second answer fits a statement: the answer can be had back from what is told. A table's refusals have the numbers 11 to 17, so
+-- that none is another layer's.
 use mathlib.Core.Path.{_≡_, refl, sym, ap, _∙_}
 use mathlib.Core.Bool.{cond}
 use mathlib.Core.List.{List}
-use Prim.Native.Nat.{ℕ}
+use Prim.Native.Nat.{ℕ, _≤_, _<_}
+use native.Mathlib.Omega.{arith}
 use lib.Dec.{eqb}
 use lib.ListN.{getD}
 use Rattle.told.specs.Told.{Told, gave, refused}
+use Rattle.told.proofs.Unique.{same-list}
 use Rattle.tracker.specs.Refusal.{told, toldCheck}
 use Rattle.tracker.specs.declared.Refusal.{Refusal}
 use Rattle.tracker.specs.declared.Refusal.the-variants.{Disagrees, SequenceDrops, SecondDrops, SecondOutside, Settings, OfferedOutside, OfferedDrops}
@@ -35,6 +38,26 @@ refusal-back Disagrees = refl
 refusal-back Settings = refl
 refusal-back OfferedOutside = refl
 refusal-back OfferedDrops = refl
+
+pub table-told : (a b : Refusal) → told a ≡ told b → a ≡ b
+table-told a b h = undone told refusalOf refusal-back a b h
+
+-- a refusal's number
+abbrev pub number : List ℕ → ℕ
+number l = getD l 0 0
+
+pub table-number : (r : Refusal) → (11 ≤ number (told r)) × (number (told r) ≤ 17)
+table-number (SequenceDrops i) = omega arith
+table-number (SecondDrops i) = omega arith
+table-number (SecondOutside i) = omega arith
+table-number Disagrees = omega arith
+table-number Settings = omega arith
+table-number OfferedOutside = omega arith
+table-number OfferedDrops = omega arith
+
+-- refusals of two layers are two
+pub apart : {X : Type 0} {A : Type 0} (k l : List ℕ) → number k < number l → _≡_ {A = Told A} (refused k) (refused l) → X
+apart k l h e = let f : number k ≡ number l = ap number (same-list e) in absurd (omega arith)
 
 checkedOf : Told (Unit {0}) → Checked
 checkedOf (gave _) = checked.Good

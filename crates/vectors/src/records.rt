@@ -65,14 +65,14 @@ fn replay_change(
     }
 }
 
-// What a record that looks at the table or changes it asks; T asks nothing.
+// What a record that looks at the table or changes it asks: of T, whether a table is made.
 fn question(kind: u8) -> usize {
     match kind {
         b'O' => tally::OFFERS,
         b'G' => tally::RUNS,
         b'X' => tally::EXTENDS,
         b'R' => tally::RESTORES,
-        b'S' | b'H' => tally::TABLES,
+        b'T' | b'S' | b'H' => tally::TABLES,
         b'V' => tally::SAVES,
         b'F' | b'K' => tally::LOOKUPS,
         _ => tally::ANSWERS,

@@ -28,8 +28,8 @@ pairs-good-requires c κs =
 enum-known-why : tie.Need-enum-known-why
 enum-known-why c = search needs
 
-enum-known-why-2 : tie.Need-enum-known-why-2
-enum-known-why-2 c = search needs
+enum-known-own : tie.Need-enum-known-own
+enum-known-own c = search needs
 
 same-length : tie.Need-same-length
 same-length c = search needs
@@ -66,7 +66,7 @@ same-length-6 : tie.Need-same-length-6
 same-length-6 c = search needs
 
 returns-3 : tie.Need-returns-3
-returns-3 c = rw (← c .before .before .before .check .ensures, c .before .why2 .given .1) (refl, refl, refl)
+returns-3 c = rw (← c .before .before .before .check .ensures, c .before .own .given .1) (refl, refl, refl)
 
 pub extend-from-spec : {M : Type 1} → statement M
 extend-from-spec =
@@ -78,7 +78,7 @@ extend-from-spec =
     enum-told-2
     pairs-good-requires
     enum-known-why
-    enum-known-why-2
+    enum-known-own
     same-length
     same-length-2
     returns

@@ -1,4 +1,3 @@
-use mathlib.Core.Path.{sym}
 use Prim.Native.Nat.{_≤_, _+_, _-_}
 use native.Mathlib.Omega.{arith}
 use lib.IntN.{pos}
@@ -70,7 +69,7 @@ returns-2 : tie.Need-returns-2 Inv-loop μ-loop
 returns-2 c =
     let at = c .before .before in
     let start = at .before .before in
-    rw (toZ-ofZ (start .fits .s)) (ended-even (pos 0) _ _ _ _ _ _ (start .args .s) (start .pre .0) (start .pre .2) (at .before .if1 .left) (at .loop .inv .0) (sym (c .if2 .taken)))
+    rw (toZ-ofZ (start .fits .s)) (ended-even (pos 0) _ _ _ _ _ _ (start .args .s) (start .pre .0) (start .pre .2) (at .before .if1 .left) (at .loop .inv .0) (c .if2 .taken))
 
 same-length-3 : tie.Need-same-length-3 Inv-loop μ-loop
 same-length-3 c = c .before .before .loop .inv .0 .same
