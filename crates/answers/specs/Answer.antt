@@ -1,4 +1,4 @@
--- What an exported call answers, from what the call below it tells: document 01's number, 0 where it is not refused, and three values.
+-- What an exported call answers, from what the call below it tells: the refusal's number, 0 where it is not refused, and three values.
 use Prim.Native.Nat.{ℕ}
 use mathlib.Core.List.{List, [], _∷_}
 use lib.IntN.{ℤ}

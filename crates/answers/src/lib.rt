@@ -1,4 +1,4 @@
-// The answers of the public calls as structs of numbers, for programs in other languages: document 01's number, and what the
+// The answers of the public calls as structs of numbers, for programs in other languages: the refusal's number, and what the
 // call gives or the refusal also tells. Here are the answer and the refusals; `call_answers` and `table_answers` have each call's.
 pub mod inner; // inner.rt: what our own crates call
 mod refusals; // refusals.rt: an answer, and a refusal as one

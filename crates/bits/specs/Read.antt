@@ -1,4 +1,4 @@
--- A read of bits: document 01's numbers for its cases, and the rule.
+-- A read of bits (docs/RULES.md, "Bits"): the numbers of its refusals, and the rule.
 use Prim.Native.Nat.{ℕ, _+_, _*_}
 use mathlib.Core.Bool.{cond}
 use mathlib.Core.List.{List, [], _∷_}

@@ -1,4 +1,4 @@
--- A write of bits: document 01's numbers for its cases, the rule, and the buffer afterwards.
+-- A write of bits (docs/RULES.md, "Bits"): the numbers of its refusals, the rule, and the buffer afterwards.
 use Prim.Native.Nat.{ℕ, zero, suc, _+_, _*_}
 use mathlib.Core.Path.{_≡_}
 use mathlib.Core.Bool.{cond}

@@ -3,7 +3,7 @@
 // slatedb's BitWriter pushes one bit at a time into a buffer that grows, and its BitReader takes one
 // bit at a time. Here a read or a write moves up to 64 bits at a place of a lent slice, a byte or more
 // at a time. No public call has a `requires`: a call that cannot be answered is refused by a case of its
-// answer, whose number in document 01 specs/ lists, and a refused call changes nothing.
+// answer, whose number specs/ lists (docs/RULES.md, "Refusals"), and a refused call changes nothing.
 pub mod inner; // inner.rt: the steps, for our own crates: all but `settle` have a `requires`
 mod read; // read.rt: a read of bits
 mod write; // write.rt: a write of bits

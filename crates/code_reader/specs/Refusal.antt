@@ -1,4 +1,4 @@
--- Document 01's number for each refusal of a reader.
+-- The number of docs/RULES.md, "Refusals", for each refusal of a reader.
 use Prim.Native.Nat.{ℕ}
 use mathlib.Core.List.{List, [], _∷_}
 use Rattle.gorilla.specs.Array.{arrayNo}

@@ -7,7 +7,7 @@ mod window; // window.rt: the bits at a place
 
 use gorilla::Array;
 
-// Why bytes are refused, with document 01's number.
+// Why bytes are refused: 1 to 10 of docs/RULES.md, "Refusals".
 pub enum Refusal {
     // 1: the input is empty
     Empty,

@@ -1,4 +1,4 @@
--- The list reader, an image's length, and what follows it: document 01's numbers for their cases, and the rules.
+-- The list reader, an image's length, and what follows it (docs/RULES.md, "The image"): the numbers of their refusals, and the rules.
 use Prim.Native.Nat.{ℕ, _+_, _-_, _/_, min}
 use mathlib.Core.Path.{_≡_}
 use mathlib.Core.Bool.{true}

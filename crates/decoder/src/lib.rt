@@ -1,5 +1,5 @@
 // The stored form read back: an image of sequences and seconds, from any bytes. No public call has a `requires`: bytes
-// that are no image are refused by document 01's number, which specs/ lists, and a refused call changes nothing.
+// that are no image are refused by a number of docs/RULES.md, which specs/ lists, and a refused call changes nothing.
 mod reader; // reader.rt: the public calls
 
 pub use code_reader::Refusal;

@@ -1,4 +1,4 @@
--- Encoding: document 01's numbers for the refusals, the rules of the length and of both encoders, and the buffer afterwards.
+-- Encoding (docs/RULES.md, "The image"): the numbers of the refusals, the rules of the length and of both encoders, and the buffer afterwards.
 use Prim.Native.Nat.{ℕ}
 use mathlib.Core.Path.{_≡_}
 use mathlib.Core.Bool.{cond, not}

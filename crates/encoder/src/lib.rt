@@ -3,7 +3,7 @@
 // slatedb's encoder pushes bits into a vector that grows, one at a time. Here codes are gathered into words (crate
 // `array_writer`), and a buffer that may be too short has the image's length counted before a byte is written, so that a refused
 // call leaves it as it was. No public call has a `requires`: what cannot be encoded is refused by a case of the answer,
-// whose number in document 01 specs/ lists.
+// whose number specs/ lists (docs/RULES.md, "Refusals").
 mod image; // image.rt: the image
 mod len; // len.rt: the image's length, counted and at most
 

@@ -1,4 +1,4 @@
--- Document 01's number of an array.
+-- The number by which a refusal tells an array (docs/RULES.md, "Refusals").
 use Prim.Native.Nat.{ℕ}
 use Rattle.gorilla.specs.declared.Array.{Array}
 use Rattle.gorilla.specs.declared.Array.the-variants.{Sequences, Seconds}

@@ -1,4 +1,4 @@
--- How an array and an image are written (document 01, "One array", "The image").
+-- How an array and an image are written (docs/RULES.md, "One array", "The image").
 use Prim.Native.Nat.{ℕ, zero, suc, _/_, _%_}
 use mathlib.Core.List.{List, [], _∷_, _++_, map}
 use lib.ListN.{length}

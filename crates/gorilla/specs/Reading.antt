@@ -1,4 +1,4 @@
--- How an array and an image are read, with document 01's refusals where they arise. Array 0 is the sequences, and array 1 the seconds.
+-- How an array and an image are read (docs/RULES.md, "One array", "The image"), with the refusals where they arise. Array 0 is the sequences, and array 1 the seconds.
 use Prim.Native.Nat.{ℕ, zero, suc, _+_, _*_}
 use mathlib.Core.Bool.{Bool}
 use mathlib.Core.List.{List, [], _∷_, map}

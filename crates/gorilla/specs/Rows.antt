@@ -1,4 +1,4 @@
--- The five rows of codes (document 01, "One array").
+-- The five rows of codes (docs/RULES.md, "One array").
 use Prim.Native.Nat.{ℕ, _-_, _^_}
 use mathlib.Core.Bool.{Bool, cond, _&&_}
 use mathlib.Core.List.{List, [], _∷_}

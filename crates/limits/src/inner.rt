@@ -1,4 +1,4 @@
-// The limits that document 01 sets: the domain of seconds, the settings and the room that they need.
+// The limits that the rules set (docs/RULES.md): the domain of seconds, the settings and the room that they need.
 ghost use mathlib.Core.Path.{_≡_};
 ghost use Rattle.limits.specs.Domain.{outside};
 ghost use Rattle.limits.specs.Settings.{badSettings, roomOf};

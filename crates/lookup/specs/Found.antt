@@ -1,4 +1,4 @@
--- What a lookup tells: the partner, nothing, or document 01's number and what it also tells.
+-- What a lookup tells: the partner, nothing, or the refusal's number and what it also tells.
 use Rattle.told.specs.Told.{Told, gave, refused}
 use Rattle.tracker.specs.Refusal.{told}
 use Rattle.tracker.specs.declared.Seq.{Seq}

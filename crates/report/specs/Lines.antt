@@ -1,4 +1,4 @@
--- The text that `listing` prints, as bytes (document 01, "The listing").
+-- The text that `listing` prints, as bytes (docs/RULES.md, "The listing").
 use Prim.Native.Nat.{ℕ, zero, suc}
 use mathlib.Core.List.{List, [], _++_}
 use lib.IntN.{ℤ, pos}

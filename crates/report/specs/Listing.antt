@@ -1,4 +1,4 @@
--- What `listing` prints for its input (document 01, "The listing").
+-- What `listing` prints for its input (docs/RULES.md, "The listing").
 use Prim.Native.Nat.{ℕ}
 use mathlib.Core.Bool.{cond}
 use mathlib.Core.List.{List}

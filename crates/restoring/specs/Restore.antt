@@ -18,7 +18,7 @@ use Rattle.settling.specs.Settle.{settledOf}
 use Rattle.restoring.specs.declared.Restored.{Restored}
 use Rattle.restoring.specs.declared.Restored.the-variants.{Table, Refused, NotDecoded}
 
--- the table's state, or document 01's number
+-- the table's state, or the refusal's number
 abbrev pub toldRestore : Restored → Told SequenceTracker
 toldRestore (Table t) = gave t
 toldRestore (Refused r) = refused (told r)

@@ -16,7 +16,7 @@ use Rattle.encoder.specs.Encode as encoder
 use Rattle.saving.specs.declared.Saved.{Saved}
 use Rattle.saving.specs.declared.Saved.the-variants.{Written, Refused, NotEncoded}
 
--- the bytes written, or document 01's number
+-- the bytes written, or the refusal's number
 abbrev pub toldSave : Saved → Told ℕ
 toldSave (Written n) = gave n
 toldSave (Refused r) = refused (told r)

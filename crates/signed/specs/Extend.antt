@@ -1,4 +1,4 @@
--- Sign extension: document 01's number for its refusal, and the rule.
+-- Sign extension (docs/RULES.md, "Bits"): the number of its refusal, and the rule.
 use Prim.Native.Nat.{ℕ, _^_, _%_}
 use mathlib.Core.Bool.{cond}
 use mathlib.Core.List.{[], _∷_}

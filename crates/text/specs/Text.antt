@@ -1,4 +1,4 @@
--- Numbers as text, as bytes (document 01, "The listing"), and a text in the buffer that is printed.
+-- Numbers as text, as bytes (docs/RULES.md, "The listing"), and a text in the buffer that is printed.
 use Prim.Native.Nat.{ℕ, zero, suc, _+_, _/_, _%_}
 use Prim.Native.Char.{code}
 use mathlib.Core.Path.{_≡_}

@@ -1,4 +1,4 @@
--- Document 01's cases P1 to P12, those that it only runs, and those that its rules name, as one table: what goes in, and what must come out.
+-- The cases of docs/RULES.md, "Cases", P1 to P12 and those that its rules name, as one table: what goes in, and what must come out.
 use Prim.Native.Nat.{ℕ}
 use mathlib.Core.Path.{_≡_}
 use mathlib.Core.List.{List, [], _∷_, _++_, map}
@@ -92,7 +92,7 @@ Skips w r = offerTo w (r .seq) (r .ts) ≡ gave skipped
 abbrev pub Finds : Table → ℕ → FindOption → Partner Second → Type 0
 Finds w seq opt found = findTs (w .state) (w .seqs) (w .secs) (record { 0 = seq }) opt ≡ gave found
 
--- ---- the table, each case under document 01's words
+-- ---- the table, each case under the words of the rules
 
 pub record Cases : Type 0 where
   -- Extension of 64 in 7 bits is -64; of 63 it is 63

@@ -1,1 +1,1 @@
-// No code: document 01's cases as one table and the third demand are in specs/, their proofs in proofs/.
+// No code: the cases of docs/RULES.md as one table and the third demand are in specs/, their proofs in proofs/.

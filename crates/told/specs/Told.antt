@@ -1,8 +1,8 @@
--- What a public call tells, in document 01's words.
+-- What a public call tells.
 use Prim.Native.Nat.{ℕ}
 use mathlib.Core.List.{List}
 
--- what the call gives, or its refusal: the number in document 01's table, then what that number also tells
+-- what the call gives, or its refusal: the number in the table of docs/RULES.md, "Refusals", then what that number also tells
 pub data Told (A : Type 0) : Type 0 where
   gave : A → Told A
   refused : List ℕ → Told A

@@ -1,4 +1,4 @@
--- Document 01's number, and what that number also tells, for each answer of the table's calls.
+-- The number of docs/RULES.md, "Refusals", and what it also tells, for each answer of the table's calls.
 use Prim.Native.Nat.{ℕ}
 use mathlib.Core.List.{List, [], _∷_}
 use Rattle.told.specs.Told.{Told, gave, refused}
