@@ -34,19 +34,17 @@ const char *taken_by(struct skut_state state)
     return NULL;
 }
 
-void refused_cases(void)
-{
-    static uint64_t kept_seqs[PLACES] = {5};
-    static int64_t kept_secs[PLACES] = {10};
+static uint64_t kept_seqs[PLACES] = {5};
+static int64_t kept_secs[PLACES] = {10};
+
 #define KEPT kept_seqs, PLACES, kept_secs, PLACES
+
+static void without_state(struct skut_state good, struct skut_state fresh)
+{
     const uint64_t one[] = {1};
     const uint8_t cut[12] = {1};
-    struct skut_state fresh = skut_new().state;
-    struct skut_state good = {1, PLACES, 1, 60, 10};
-    struct skut_state bad = {1, PLACES, 2, 60, 10};
-    answers("skut_check", "the table of the next cases is good", skut_check(good, KEPT), SKUT_DONE, 0, 0, 0);
-    holds("a good state", "is not refused", taken_by(fresh) != NULL, "every call refuses it");
-
+    struct skut_state bad = good;
+    bad.has_last = 2;
     gives_none("skut_with_config", "15 has no state", skut_with_config(8193, 0), SKUT_SETTINGS, 0);
     gives_none("skut_offer", "14 has no state", skut_offer(bad, KEPT, 9, 70), SKUT_STATE_DISAGREES, 0);
     gives_none("skut_offer", "16 has no state", skut_offer(good, KEPT, 9, INT64_MAX), SKUT_OFFERED_OUTSIDE, 0);
@@ -56,6 +54,44 @@ void refused_cases(void)
     gives_none("skut_extend_from", "14 of the own table has no state", skut_extend_from(bad, KEPT, fresh, OTHER), SKUT_STATE_DISAGREES, 0);
     gives_none("skut_extend_from", "14 of the other table has no state", skut_extend_from(good, KEPT, bad, OTHER), SKUT_STATE_DISAGREES, 1);
     gives_none("skut_restore", "4 has no state", skut_restore(cut, sizeof cut, KEPT), SKUT_COUNT_CUT, 1);
+}
+
+/* Tables whose kept pairs are refused. */
+static void bad_pairs(void)
+{
+    uint64_t rising[] = {5, 6}, dropping[] = {5, 4};
+    int64_t same[] = {10, 10}, earlier[] = {10, 9}, outside[] = {INT64_MIN, 10};
+    struct skut_state state = {2, 2, 1, 0, 10};
+    gives_none("skut_offer", "11 has no state", skut_offer(state, dropping, 2, same, 2, 9, 70), SKUT_SEQUENCE_DROPS, 1);
+    gives_none("skut_offer_pairs", "12 has no state", skut_offer_pairs(state, rising, 2, earlier, 2, NONE, NONE), SKUT_SECOND_DROPS, 1);
+    gives_none("skut_extend_from", "13 has no state", skut_extend_from(state, rising, 2, outside, 2, skut_new().state, OTHER), SKUT_SECOND_OUTSIDE, 0);
+}
+
+/* A list of offers that is refused at a record gives the state that those before it left. */
+static void with_state(struct skut_state good, struct skut_state fresh)
+{
+    const uint64_t q[] = {6, 4};
+    const int64_t s[] = {70, 130}, late[] = {130, INT64_MAX}, later[] = {200};
+    struct skut_table_answer said = skut_offer_pairs(good, KEPT, q, 2, s, 2);
+    answers("skut_offer_pairs", "17 tells the position", said.answer, SKUT_OFFERED_DROPS, 1, 0, 0);
+    said = skut_offer_pairs(said.state, KEPT, q, 2, late, 2);
+    answers("skut_offer_pairs", "16 tells the position", said.answer, SKUT_OFFERED_OUTSIDE, 1, 0, 0);
+    struct skut_state other = skut_offer_pairs(fresh, OTHER, q + 1, 1, later, 1).state;
+    said = skut_extend_from(said.state, KEPT, other, OTHER);
+    answers("skut_extend_from", "17 tells the position", said.answer, SKUT_OFFERED_DROPS, 0, 0, 0);
+    answers("skut_check", "16 and 17 of a list have a state", skut_check(said.state, KEPT), SKUT_DONE, 0, 0, 0);
+    holds("skut_offer_pairs", "the records before are kept", said.state.count == 3 && said.state.last == 130, "%zu pairs, last %lld", said.state.count,
+          (long long)said.state.last);
+}
+
+void refused_cases(void)
+{
+    struct skut_state fresh = skut_new().state;
+    struct skut_state good = {1, PLACES, 1, 60, 10};
+    answers("skut_check", "the table of the next cases is good", skut_check(good, KEPT), SKUT_DONE, 0, 0, 0);
+    holds("a good state", "is not refused", taken_by(fresh) != NULL, "every call refuses it");
+    without_state(good, fresh);
+    bad_pairs();
     answers("skut_check", "the table is good after all of these", skut_check(good, KEPT), SKUT_DONE, 0, 0, 0);
-#undef KEPT
+    with_state(good, fresh);
 }
