@@ -1,4 +1,4 @@
-/* A table from C: offers, a strict save, a restore, a lookup. */
+/* A table from C: offers, a strict save, a restore, a lookup. The table outlives every refused call. */
 #include "skutlaneb.h"
 
 #include <stdio.h>
@@ -14,33 +14,49 @@ static uint64_t seqs[PLACES];
 static int64_t secs[PLACES];
 static uint8_t image[9 * PLACES + 21];
 
+/* The state to go on with: the answer's where it gives one, else the one that the caller has, whose arrays a refused call leaves as they were. */
+static struct skut_state kept(struct skut_state had, struct skut_table_answer said)
+{
+    return said.answer.number == SKUT_DONE ? said.state : had;
+}
+
+/* The same after skut_offer_pairs or skut_extend_from: refused at a record, they give what stood before it. */
+static struct skut_state kept_of_list(struct skut_state had, struct skut_table_answer said)
+{
+    uint32_t number = said.answer.number;
+    return number == SKUT_OFFERED_OUTSIDE || number == SKUT_OFFERED_DROPS ? said.state : kept(had, said);
+}
+
 int main(void)
 {
     const uint64_t from_seqs[] = {100, 164, 170, 150};
     const int64_t from_secs[] = {0, 60, 65, 125};
-    struct skut_table_answer table = skut_new();
-    table = skut_offer_pairs(table.state, seqs, PLACES, secs, PLACES, from_seqs, 4, from_secs, 4);
-    printf("%llu recorded, %llu skipped\n", (unsigned long long)table.recorded, (unsigned long long)table.skipped);
-    if (table.answer.number != SKUT_DONE) {
-        printf("refused %u at %llu\n", table.answer.number, (unsigned long long)table.answer.a);
-    }
+    struct skut_state table = skut_new().state;
+    struct skut_table_answer said = skut_offer_pairs(table, seqs, PLACES, secs, PLACES, from_seqs, 4, from_secs, 4);
+    table = kept_of_list(table, said);
+    printf("%llu recorded, %llu skipped, refused %u at %llu: %zu pairs\n", (unsigned long long)said.recorded, (unsigned long long)said.skipped,
+           said.answer.number, (unsigned long long)said.answer.a, table.count);
 
-    struct skut_answer saved = skut_save_strict(table.state, seqs, PLACES, secs, PLACES, image, sizeof image);
+    said = skut_offer(table, seqs, PLACES, secs, PLACES, 150, 125);
+    table = kept(table, said);
+    printf("one offer: refused %u: %zu pairs\n", said.answer.number, table.count);
+
+    struct skut_answer saved = skut_save_strict(table, seqs, PLACES, secs, PLACES, image, sizeof image);
     if (saved.number != SKUT_DONE) {
         return 1;
     }
     printf("%llu bytes\n", (unsigned long long)saved.a);
 
-    struct skut_table_answer restored = skut_restore(image, saved.a, seqs, PLACES, secs, PLACES);
-    if (restored.answer.number != SKUT_DONE) {
+    said = skut_restore(image, saved.a - 1, seqs, PLACES, secs, PLACES);
+    table = kept(table, said);
+    printf("one byte less: refused %u: %zu pairs\n", said.answer.number, table.count);
+
+    said = skut_restore(image, saved.a, seqs, PLACES, secs, PLACES);
+    table = kept(table, said);
+    struct skut_answer found = skut_find_ts(table, seqs, PLACES, secs, PLACES, 163, SKUT_ROUND_DOWN);
+    if (said.answer.number != SKUT_DONE || found.number != SKUT_DONE || found.a != 1) {
         return 1;
     }
-    struct skut_answer found = skut_find_ts(restored.state, seqs, PLACES, secs, PLACES, 163, 1);
-    if (found.number == SKUT_DONE && found.a == 1) {
-        printf("sequence 163: second %lld or later\n", (long long)(int64_t)found.b);
-    }
-
-    restored = skut_restore(image, saved.a - 1, seqs, PLACES, secs, PLACES);
-    printf("one byte less: refused %u\n", restored.answer.number);
+    printf("sequence 163: second %lld or later\n", (long long)(int64_t)found.b);
     return 0;
 }

@@ -1,12 +1,17 @@
 /* The sequence table's calls for C, and for whatever links C. `rt staticlib skutlaneb` writes the library, target/staticlib/libskutlaneb.a,
  * for x86-64 and the System V convention of calls. docs/STATEMENTS.md has what is proved of each call.
  *
- * No argument makes a call misread: what numbers do not make is refused by a number of the list below. The caller answers for one thing, that a
- * pointer and its length name memory of its own, and that what is written to overlaps nothing else of the same call. Where a length is
- * 0, its pointer is not used and may be NULL.
+ * No argument makes a call misread, as long as each pointer and its length name memory of the caller's own that stays allocated and that nothing
+ * else changes during the call, an array of uint64_t or int64_t is aligned for its type (to 8 bytes), and what a call writes to overlaps nothing else of
+ * the same call: what numbers do not make is then refused by a number of the list below. A length counts values, not bytes. Where it is 0, its pointer
+ * is not used and may be NULL.
  *
- * A refused call leaves every array as it was and returns no state. One case is different: skut_offer_pairs and skut_extend_from, refused at
- * a record (16 or 17), keep and return what stood before that record.
+ * Why an output may not overlap an input: the proofs take the arrays of a call to be apart. A call looks over its input first and reads it again
+ * while it writes. If it then reads what it has just written, its answer is wrong, and a call that writes an image can write past the output's end,
+ * since the length that it counted first is not that of the values which it finds. Offers write to both arrays of a table, so these are apart, too.
+ *
+ * A refused call leaves every array as it was and returns no state: keep the state you have until an answer gives one. One case is different:
+ * skut_offer_pairs and skut_extend_from, refused at a record (16 or 17), keep and return what stood before that record. example.c shows it.
  *
  * No call uses a heap or keeps anything after it returns. What stack each needs stands beside it; a test holds the library to that. */
 #ifndef SKUTLANEB_H
@@ -28,7 +33,7 @@ struct skut_answer {
 
 /* A table's state. Its pairs stand in two arrays of the caller's, each of as many places as the capacity says and at least one; `count` places
  * are in use. `has_last` of 0 says that no second was recorded yet, 1 that `last` is the last recorded one; a state with any other number there is
- * refused by 14. A caller keeps the state that a call returns and passes it on; it changes nothing in it. */
+ * refused by 14. A caller passes a state on as a call returned it, with the same arrays, and changes nothing in either. */
 struct skut_state {
     size_t count;
     uint32_t capacity;
@@ -74,6 +79,12 @@ enum {
     SKUT_BITS_SHORT = 24        /* fewer bits are left than asked for */
 };
 
+/* How a lookup goes on where no key equals the one asked for. */
+enum {
+    SKUT_ROUND_UP = 0,  /* to the next greater key */
+    SKUT_ROUND_DOWN = 1 /* to the next smaller key; any other number does the same */
+};
+
 /* ---- A table */
 
 /* An empty table of capacity 8,192 and interval 60. Stack: 256 bytes. */
@@ -94,28 +105,34 @@ struct skut_table_answer skut_offer(struct skut_state state, uint64_t *seqs, siz
 struct skut_table_answer skut_offer_pairs(struct skut_state state, uint64_t *seqs, size_t seqs_len, int64_t *secs, size_t secs_len,
                                           const uint64_t *from_seqs, size_t from_seqs_len, const int64_t *from_secs, size_t from_secs_len);
 
-/* Offers the pairs of another table. Where a table is bad (14, 11, 12, 13), which of the two is told last: 0 for the own one, 1 for the
- * other. Stack: 768 bytes. */
+/* Offers the pairs of another table, whose arrays are not those of the own one. Where a table is bad (14, 11, 12, 13), which of the two is told last:
+ * 0 for the own one, 1 for the other. Stack: 768 bytes. */
 struct skut_table_answer skut_extend_from(struct skut_state state, uint64_t *seqs, size_t seqs_len, int64_t *secs, size_t secs_len,
                                           struct skut_state other, const uint64_t *other_seqs, size_t other_seqs_len,
                                           const int64_t *other_secs, size_t other_secs_len);
 
-/* The second of a sequence. a is 1, and b the second by its 64 bits; or a is 0, and there is none. A `round` of 0 takes, where no sequence is
- * equal, the next greater one, any other the next smaller one. Stack: 384 bytes. */
+/* The second of a sequence. a is 1, and b the second by its 64 bits; or a is 0, and there is none. Where no kept sequence is equal, SKUT_ROUND_UP takes
+ * the next greater one and SKUT_ROUND_DOWN the next smaller one. Where several are equal, the one at the lowest position answers. Stack: 384 bytes. */
 struct skut_answer skut_find_ts(struct skut_state state, const uint64_t *seqs, size_t seqs_len, const int64_t *secs, size_t secs_len, uint64_t seq, uint32_t round);
 
-/* The sequence of a second, likewise: a is 1 and b the sequence, or a is 0. Stack: 384 bytes. */
+/* The sequence of a second, likewise: a is 1 and b the sequence, or a is 0. Where several seconds are equal, the one at the lowest position
+ * answers. Stack: 384 bytes. */
 struct skut_answer skut_find_seq(struct skut_state state, const uint64_t *seqs, size_t seqs_len, const int64_t *secs, size_t secs_len, int64_t sec, uint32_t round);
 
 /* Writes the table's image, and a is its length: 21. An image of n pairs has at most 9n + 21 bytes. The bytes are those that slatedb writes, also where
- * they read back as other pairs. Stack: 640 bytes. */
+ * they read back as other pairs: (0, 0), (2^33, 60) come back as (0, 0), (0, 60). Stack: 640 bytes. */
 struct skut_answer skut_save(struct skut_state state, const uint64_t *seqs, size_t seqs_len, const int64_t *secs, size_t secs_len, uint8_t *out, size_t out_len);
 
-/* The same, but an image that would read back as other pairs is refused: 20, 21. Stack: 640 bytes. */
+/* The same, but an image that would read back as other pairs is refused: 20, 21. The table comes back from skut_restore as it was if it has the default
+ * settings (capacity 8,192, interval 60), was made by skut_new or skut_restore and by offers alone, and nobody changes the bytes. Else its pairs
+ * come back as long as the bytes are the same, and the rest may differ, since the image has neither the settings nor the last recorded second:
+ * - capacity 3, interval 0, and (1, 10), (2, 20), (3, 30), (4, 40) offered: `last` is 40, and comes back as 30, with the default settings;
+ * - a state that no call made, with count 1, the default settings and `last` 20, and the pair (1, 10): 14 accepts it, and `last` comes back as 10.
+ * Nor has it a checksum: bytes that were changed may read as another table, with no refusal. Stack: 640 bytes. */
 struct skut_answer skut_save_strict(struct skut_state state, const uint64_t *seqs, size_t seqs_len, const int64_t *secs, size_t secs_len, uint8_t *out, size_t out_len);
 
-/* The table of an image, of capacity 8,192 and interval 60, its pairs in arrays of at least 8,192 places: 14, 1 to 10, 11 to 13. Bytes after the
- * image are ignored. Stack: 133,120 bytes. */
+/* The table of an image, of capacity 8,192 and interval 60, its pairs in arrays of at least 8,192 places, its last recorded second that of the last
+ * pair: 14, 1 to 10, 11 to 13. Bytes after the image are ignored. skut_save_strict says when this is the table that was saved. Stack: 133,120 bytes. */
 struct skut_table_answer skut_restore(const uint8_t *bytes, size_t bytes_len, uint64_t *seqs, size_t seqs_len, int64_t *secs, size_t secs_len);
 
 /* ---- Images of two arrays, with no table */

@@ -2,7 +2,7 @@
 from .oracle import hexed, unhexed
 from .records import u8, u32, u64
 
-END = 24  # document 01's number: fewer bits left than asked
+END = 24  # in the list of refusals (docs/RULES.md): fewer bits left than asked
 
 
 def edge_values(width):

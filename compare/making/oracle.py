@@ -79,7 +79,7 @@ class State:
         return [sec for _, sec in self.pairs]
 
 
-# The Rust's words for a refusal, document 01's number, and what group 1 of the words tells beside it.
+# The Rust's words for a refusal, the number of the list of refusals (docs/RULES.md), and what group 1 of the words tells beside it.
 REFUSALS = [
     (r"Empty buffer", 1, None),
     (r"Unsupported version: (\d+)", 2, int),
@@ -99,7 +99,7 @@ def refusal(text):
         match = re.fullmatch("err " + words, text)
         if match:
             return number, tells(match.group(1)) if tells else 0
-    raise ValueError(f"not a refusal that document 01 numbers: {text[:200]}")
+    raise ValueError(f"not in the list of refusals: {text[:200]}")
 
 
 def image_of(text):

@@ -141,7 +141,7 @@ def settings(oracle, records, chance):
 
 
 def worked(oracle, records):
-    """Document 01's own cases P8 to P12."""
+    """The cases P8 to P12 of docs/RULES.md."""
     offers = [(1, 10), (2, 20), (3, 30), (4, 40), (5, 50)]
     for capacity, n, later in ((4, 5, []), (3, 4, [(3, 45)]), (3, 4, [(9, 39)]), (0, 2, [])):
         table = Table(oracle, records, capacity, 0)

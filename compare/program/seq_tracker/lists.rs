@@ -105,7 +105,7 @@ fn log(chance: &mut Chance, t: &SequenceTracker, n: usize) -> (Vec<u64>, Vec<i64
     (seqs, secs)
 }
 
-/// A log with one entry more on one side, which only document 01 judges: 18, and nothing changes.
+/// A log with one entry more on one side, which only the rules (docs/RULES.md) judge: 18, and nothing changes.
 fn unequal(tally: &mut Tally, chance: &mut Chance, t: &SequenceTracker, ours: &mut Table, mut seqs: Vec<u64>, mut secs: Vec<i64>) {
     match chance.below(2) {
         0 => seqs.push(7),

@@ -1,4 +1,4 @@
-//! Lookups by sequence and by second. Among equal keys the Rust answers some equal one, and document 01 asks for the lowest.
+//! Lookups by sequence and by second. Among equal keys the Rust answers some equal one, and the rules (docs/RULES.md) ask for the lowest.
 use super::super::*;
 use super::chance::{Chance, FIRST_SECOND, LAST_SECOND};
 use super::offers::{shown, table_of};

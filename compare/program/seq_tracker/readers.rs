@@ -125,7 +125,7 @@ impl Lending {
     }
 }
 
-/// Rules 11, 12 and 13, as document 01 has them.
+/// Refusals 11, 12 and 13, as the rules (docs/RULES.md) have them.
 pub fn unfit(seqs: &[u64], secs: &[i64]) -> Option<(u32, u64)> {
     let drop = |i: usize| i as u64 + 1;
     let seq = seqs.windows(2).position(|w| w[1] < w[0]).map(|i| (11, drop(i)));

@@ -1,4 +1,4 @@
-//! Refusals that the Rust does not have: what document 01 says, and that every lent place stays as it was.
+//! Refusals that the Rust does not have: what the rules (docs/RULES.md) say, and that every lent place stays as it was.
 use super::chance::{Chance, FIRST_SECOND, LAST_SECOND};
 use super::lent;
 use super::offers::shown;
@@ -15,7 +15,7 @@ pub fn no_table(answer: Answer) -> TableAnswer {
     TableAnswer { answer, recorded: 0, skipped: 0, state: NO_STATE }
 }
 
-/// Rules 14, 11, 12 and 13 on a table, as document 01 has them.
+/// Refusals 14, 11, 12 and 13 of a table, as the rules have them.
 fn judged(t: &Table) -> Option<Answer> {
     let s = t.state;
     let room = (s.capacity as usize).max(1);
@@ -61,7 +61,7 @@ fn spoiled(chance: &mut Chance) -> Table {
     Table { state, seqs: lent::seqs(chance, &seqs, spare + less), secs: lent::secs(chance, &secs, short) }
 }
 
-/// Every call on a table that document 01 refuses.
+/// Every call on a table that the rules refuse.
 fn bad_table(tally: &mut Tally, chance: &mut Chance) {
     let mut t = spoiled(chance);
     let Some(rule) = judged(&t) else {

@@ -5,7 +5,7 @@ use std::fmt::Debug;
 pub struct Tally {
     /// answers that the Rust gives too
     rust: BTreeMap<&'static str, u64>,
-    /// answers that the Rust does not have: document 01 alone says what they are
+    /// answers that the Rust does not have: the rules (docs/RULES.md) alone say what they are
     rules: BTreeMap<&'static str, u64>,
     /// refused calls after which every lent place was looked at
     untouched: u64,
@@ -29,10 +29,10 @@ impl Tally {
         *self.rust.entry(kind).or_default() += 1;
     }
 
-    /// What document 01 says and our answer.
+    /// What the rules say and our answer.
     pub fn ruled<A: PartialEq + Debug>(&mut self, kind: &'static str, input: impl Fn() -> String, rule: &A, ours: &A) {
         if rule != ours {
-            differ(kind, "document 01", input(), rule, ours);
+            differ(kind, "the rules", input(), rule, ours);
         }
         *self.rules.entry(kind).or_default() += 1;
     }
@@ -55,7 +55,7 @@ impl Tally {
         println!("\ncompared with the Rust:");
         self.rust.iter().for_each(|(kind, n)| println!("  {kind}: {n}"));
         println!("  in all: {}", total(&self.rust));
-        println!("\nheld to document 01, where the Rust has no answer:");
+        println!("\nheld to the rules (docs/RULES.md), where the Rust has no answer:");
         self.rules.iter().for_each(|(kind, n)| println!("  {kind}: {n}"));
         println!("  in all: {}", total(&self.rules));
         println!("\nrefused calls that left every lent place as it was: {}", self.untouched);

@@ -1,4 +1,4 @@
-//! The Rust's side: its answers in the numbers of document 01.
+//! The Rust's side: its answers in the numbers of the list of refusals (docs/RULES.md).
 use super::super::*;
 use super::ours::State;
 use std::panic::{catch_unwind, AssertUnwindSafe};
@@ -80,7 +80,7 @@ pub fn refusal(words: &str) -> (u32, u64) {
             } else if words.contains("timestamps, got") {
                 (9, 1)
             } else {
-                panic!("the Rust says something that document 01 does not number: {words}")
+                panic!("the Rust says something that the list of refusals does not have: {words}")
             }
         }
     }

@@ -1,0 +1,36 @@
+/* A case compares one answer, and prints `ok CALL: WHEN`, or `FAILED CALL: WHEN` with what was expected and what came. */
+#ifndef CASES_H
+#define CASES_H
+
+#include "../skutlaneb.h"
+
+#define PLACES 8192
+
+/* A pointer and its length: no values. */
+#define NONE NULL, 0
+
+/* A case, and what is said of it if it failed, as by printf. */
+void holds(const char *call, const char *when, int truth, const char *said, ...);
+
+/* The number and the values of an answer. */
+void answers(const char *call, const char *when, struct skut_answer got, uint32_t number, uint64_t a, uint64_t b, uint64_t c);
+
+/* A call that is not refused: what it counts, and its state. */
+void gives(const char *call, const char *when, struct skut_table_answer got, uint64_t recorded, uint64_t skipped, struct skut_state state);
+
+/* A call that is refused and gives no state: what it answers, and that every call refuses the state that stands there. */
+void gives_none(const char *call, const char *when, struct skut_table_answer got, uint32_t number, uint64_t a);
+
+/* The call that does not refuse a state by 14, where there is one. */
+const char *taken_by(struct skut_state state);
+
+int same_state(struct skut_state one, struct skut_state other);
+
+void null_cases(void);
+void refused_cases(void);
+void claim_cases(void);
+
+/* Prints `N passed, M failed`, and gives whether nothing failed. */
+int all_passed(void);
+
+#endif

@@ -1,0 +1,106 @@
+/* What the header says of saves, restores and lookups: when a table comes back as it was, the smallest ones that do not, and which key answers. */
+#include "cases.h"
+
+#include <string.h>
+
+static uint64_t seqs[PLACES];
+static int64_t secs[PLACES];
+static uint8_t image[64];
+
+#define ARRAYS seqs, PLACES, secs, PLACES
+
+/* The first pairs that stand in the arrays. */
+static void pairs(const char *call, const char *when, const uint64_t *q, const int64_t *s, size_t n)
+{
+    size_t i = 0;
+    while (i < n && seqs[i] == q[i] && secs[i] == s[i]) {
+        i++;
+    }
+    holds(call, when, i == n, "pair %zu is (%llu, %lld)", i, (unsigned long long)seqs[i], (long long)secs[i]);
+}
+
+/* The arrays hold nothing of what was saved when the image is restored. */
+static struct skut_table_answer restored(size_t length)
+{
+    memset(seqs, 0xAA, sizeof seqs);
+    memset(secs, 0xAA, sizeof secs);
+    return skut_restore(image, length, ARRAYS);
+}
+
+static void as_it_was(void)
+{
+    const uint64_t q[] = {100, 164};
+    const int64_t s[] = {0, 60};
+    struct skut_state table = skut_offer_pairs(skut_new().state, ARRAYS, q, 2, s, 2).state;
+    answers("skut_save_strict", "the default settings", skut_save_strict(table, ARRAYS, image, sizeof image), SKUT_DONE, 33, 0, 0);
+    gives("skut_restore", "the table is as it was", restored(33), 0, 0, table);
+    pairs("skut_restore", "the pairs are as they were", q, s, 2);
+
+    const uint64_t other[] = {101, 165};
+    image[16] ^= 1;
+    gives("skut_restore", "a changed bit is taken", restored(33), 0, 0, table);
+    pairs("skut_restore", "a changed bit makes other pairs", other, s, 2);
+}
+
+static void other_settings(void)
+{
+    const uint64_t q[] = {1, 2, 3, 4}, kept_q[] = {1, 3};
+    const int64_t s[] = {10, 20, 30, 40}, kept_s[] = {10, 30};
+    struct skut_state saved = {2, 3, 1, 0, 40}, back = {2, PLACES, 1, 60, 30};
+    struct skut_table_answer table = skut_offer_pairs(skut_with_config(3, 0).state, ARRAYS, q, 4, s, 4);
+    gives("skut_offer_pairs", "capacity 3 drops the newest pair", table, 4, 0, saved);
+    pairs("skut_offer_pairs", "capacity 3 keeps two pairs", kept_q, kept_s, 2);
+    struct skut_answer written = skut_save_strict(table.state, ARRAYS, image, sizeof image);
+    gives("skut_restore", "capacity 3 comes back with last 30 and the default settings", restored(written.a), 0, 0, back);
+    pairs("skut_restore", "capacity 3 comes back with the pairs", kept_q, kept_s, 2);
+}
+
+static void own_state(void)
+{
+    const uint64_t q[] = {1};
+    const int64_t s[] = {10};
+    struct skut_state made = {1, PLACES, 1, 60, 20}, back = {1, PLACES, 1, 60, 10};
+    seqs[0] = 1;
+    secs[0] = 10;
+    answers("skut_check", "last 20 above the last pair", skut_check(made, ARRAYS), SKUT_DONE, 0, 0, 0);
+    answers("skut_save_strict", "last 20 above the last pair", skut_save_strict(made, ARRAYS, image, sizeof image), SKUT_DONE, 29, 0, 0);
+    gives("skut_restore", "last 20 comes back as 10", restored(29), 0, 0, back);
+    pairs("skut_restore", "last 20 comes back with the pair", q, s, 1);
+}
+
+static void plain_save(void)
+{
+    const uint64_t q[] = {0, (uint64_t)1 << 33}, back[] = {0, 0};
+    const int64_t s[] = {0, 60};
+    struct skut_state table = skut_offer_pairs(skut_new().state, ARRAYS, q, 2, s, 2).state;
+    answers("skut_save_strict", "a step of 2^33", skut_save_strict(table, ARRAYS, image, sizeof image), SKUT_WIDE, 0, 1, 0);
+    struct skut_answer saved = skut_save(table, ARRAYS, image, sizeof image);
+    answers("skut_save", "a step of 2^33", saved, SKUT_DONE, 36, 0, 0);
+    gives("skut_restore", "a step of 2^33 is taken", restored(saved.a), 0, 0, table);
+    pairs("skut_restore", "a step of 2^33 comes back as 0", back, s, 2);
+}
+
+static void lookups(void)
+{
+    const uint64_t q[] = {5, 5, 7, 9};
+    const int64_t s[] = {10, 20, 20, 30};
+    struct skut_state table = skut_offer_pairs(skut_with_config(4, 0).state, ARRAYS, q, 4, s, 4).state;
+    answers("skut_find_ts", "the lowest of equal sequences, up", skut_find_ts(table, ARRAYS, 5, SKUT_ROUND_UP), SKUT_DONE, 1, 10, 0);
+    answers("skut_find_ts", "the lowest of equal sequences, down", skut_find_ts(table, ARRAYS, 5, SKUT_ROUND_DOWN), SKUT_DONE, 1, 10, 0);
+    answers("skut_find_seq", "the lowest of equal seconds, up", skut_find_seq(table, ARRAYS, 20, SKUT_ROUND_UP), SKUT_DONE, 1, 5, 0);
+    answers("skut_find_seq", "the lowest of equal seconds, down", skut_find_seq(table, ARRAYS, 20, SKUT_ROUND_DOWN), SKUT_DONE, 1, 5, 0);
+    answers("skut_find_ts", "the next greater", skut_find_ts(table, ARRAYS, 8, SKUT_ROUND_UP), SKUT_DONE, 1, 30, 0);
+    answers("skut_find_ts", "the next smaller", skut_find_ts(table, ARRAYS, 8, SKUT_ROUND_DOWN), SKUT_DONE, 1, 20, 0);
+    answers("skut_find_ts", "any other number rounds down", skut_find_ts(table, ARRAYS, 8, 2), SKUT_DONE, 1, 20, 0);
+    answers("skut_find_seq", "the next greater", skut_find_seq(table, ARRAYS, 15, SKUT_ROUND_UP), SKUT_DONE, 1, 5, 0);
+    answers("skut_find_seq", "any other number rounds down", skut_find_seq(table, ARRAYS, 29, UINT32_MAX), SKUT_DONE, 1, 7, 0);
+}
+
+void claim_cases(void)
+{
+    as_it_was();
+    other_settings();
+    own_state();
+    plain_save();
+    lookups();
+}
