@@ -166,7 +166,8 @@ pub record Unharmed (w v : Table) : Type 0 where
 abbrev pub GoesOn : Table → Type 0
 GoesOn w = (es : List Event) → Proper es → (answers w es ≡ answers w (offersIn es)) × Unharmed (ranTo w es) (ranTo w (offersIn es))
 
--- from a new table in any two such arrays; and from a table that `restore` leaves, with the state t that it gives, of any bytes, whoever wrote them
+-- from a new table in any two arrays of at least 8,192 places; and from each table that `restore` leaves, with the state t that it gives: of any bytes
+-- that it accepts, whoever wrote them
 abbrev pub Demand : Type 0
 Demand =
     ((seqs : List ℕ) (secs : List ℤ) → Lent seqs secs → GoesOn (new seqs secs))
