@@ -1,6 +1,7 @@
 -- Two short runs, computed: with a save that writes, the table comes back in the other arrays; with one that is refused, it stays in its own.
+-- And bytes from which the demand holds, though no save writes them.
 use mathlib.Core.Path.{_≡_, refl}
-use mathlib.Core.List.{[], _∷_}
+use mathlib.Core.List.{[], _∷_, _++_}
 use Prim.Native.Nat.{ℕ}
 use lib.IntN.{pos}
 use lib.ListN.{take, replicate}
@@ -14,8 +15,10 @@ use Rattle.gorilla.specs.Rows.{rowOf, strict}
 use Rattle.gorilla.specs.Wide.{wideAfter, wideIn, wideOf}
 use Rattle.keeping.specs.Keep.{evens}
 use Rattle.encoder.specs.Encode.{arraysRule, roomRule}
-use Rattle.offers.specs.Whole.{Table}
-use Rattle.theorems.specs.Run.{new, Event, offered, reloaded, step, ranTo}
+use Rattle.offers.specs.Whole.{Table, whole}
+use Rattle.theorems.specs.Run.{new, Event, offered, reloaded, step, ranTo, GoesOn}
+use Rattle.theorems.specs.Cases.{fifth}
+use Rattle.theorems.proofs.Run.{demand}
 
 offer : ℕ → ℕ → Event
 offer seq ts = offered (record { 0 = seq }) (record { 0 = pos ts })
@@ -36,3 +39,8 @@ runs : let w = ranTo begin (offer 100 0 ∷ reload ∷ offer 164 60 ∷ reload �
     × (take 3 (v .secs) ≡ pos 0 ∷ pos 2147483648 ∷ pos 3 ∷ [])
 unfolding offer reload begin step ranTo evens firstFrom arraysRule roomRule wideOf wideIn wideAfter strict natBits bitsOf natFrom bytesOf packed takeBits codeBits codesBits valuesBits arrayBits leBytes imageBytes rowOf cutNumber countOnes readCode readCodes valuesAfter readValues readArray leCount readPart readPairs
 runs = (refl, refl, refl, refl, refl)
+
+-- P5's image with padding that is not zeros, and a byte after it
+from-others : GoesOn (whole (record { count = 2; capacity = 8192; «interval_secs» = 60; «last_recorded_ts» = At (record { 0 = pos 60 }) }) (100 ∷ 164 ∷ replicate 8190 3) (pos 0 ∷ pos 60 ∷ replicate 8190 (pos 3)))
+unfolding firstFrom natBits bitsOf natFrom takeBits cutNumber countOnes readCode readCodes valuesAfter readValues readArray leCount readPart readPairs
+from-others = demand .1 (fifth 0x0F 0x7F ++ (7 ∷ [])) (replicate 8192 3) _ (replicate 8192 (pos 3)) _ _ (refl, refl, refl)

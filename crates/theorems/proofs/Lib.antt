@@ -1,6 +1,8 @@
--- The proofs of the statements in specs/: `demand` in Run, `all-hold` in Cases.
+-- The proofs of the statements in specs/: `demand` in Run, `cases` in Cases.
 mod Kept
 mod Sound
+mod Small
+mod Restored
 mod Reload
 mod Exact
 mod Logged

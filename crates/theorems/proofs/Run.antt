@@ -9,9 +9,10 @@ use Rattle.tracker.specs.Table.{checkOf}
 use Rattle.lookup.specs.Laws.{SameKept}
 use Rattle.lookup.proofs.Laws.{kept-ts, kept-seq}
 use Rattle.offers.specs.Offer.{Outcome}
-use Rattle.offers.specs.Whole.{Table}
-use Rattle.theorems.specs.Run.{new, Event, offered, reloaded, step, ranTo, answers, offersIn, Proper, Unharmed, Demand}
+use Rattle.offers.specs.Whole.{Table, whole}
+use Rattle.theorems.specs.Run.{new, Event, offered, reloaded, step, ranTo, answers, offersIn, Proper, Unharmed, GoesOn, Demand}
 use Rattle.theorems.proofs.Sound.{Sound, Same, offered-sound, offered-told, offered-same, new-sound, same-self, same-trans}
+use Rattle.theorems.proofs.Restored.{restored-sound}
 use Rattle.theorems.proofs.Reload.{restores, reload-sound, reload-same}
 use Rattle.theorems.proofs.Exact.{refuses, with-20, writes}
 use Rattle.theorems.proofs.Logged.{same-kept, log-same, pairs-same, extend-same, extend-by-same}
@@ -67,8 +68,13 @@ unharmed w v K =
       exact = λ l room lent. (refuses w (K .sound) l lent room, with-20 w (K .sound) l lent room, writes w (K .sound) l lent room);
     }
 
+goes-on : (w : Table) → Sound w → GoesOn w
+goes-on w S es p =
+    let r = run-kept w w es p (record { sound = S; sound′ = S; same = same-self w S }) in
+    (r .0, unharmed (ranTo w es) (ranTo w (offersIn es)) (r .1))
+
 pub demand : Demand
-demand seqs secs es lent p =
-    let s = new-sound seqs secs lent in
-    let r = run-kept (new seqs secs) (new seqs secs) es p (record { sound = s; sound′ = s; same = same-self (new seqs secs) s }) in
-    (r .0, unharmed (ranTo (new seqs secs) es) (ranTo (new seqs secs) (offersIn es)) (r .1))
+demand = (
+  λ seqs secs lent. goes-on (new seqs secs) (new-sound seqs secs lent),
+  λ bytes seqs seqs′ secs secs′ t h. goes-on (whole t seqs′ secs′) (restored-sound bytes seqs seqs′ secs secs′ t h),
+)

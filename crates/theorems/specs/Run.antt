@@ -1,4 +1,4 @@
--- The third demand: offers to a new table, with strict saves and restores between them, go as the offers alone would.
+-- The third demand: offers to a table, new or restored from any bytes, with strict saves and restores between them, go as the offers alone would.
 use Prim.Native.Nat.{ℕ, _≤_, _<_, _^_}
 use mathlib.Core.Path.{_≡_}
 use mathlib.Core.Logic.{_↔_}
@@ -24,7 +24,8 @@ use Rattle.log.specs.Log.{Log, logOf}
 use Rattle.log.specs.Pairs.{pairsLogOf, extendOf}
 use Rattle.decoder.specs.Decode.{listed}
 use Rattle.saving.specs.Save.{saveStrictOf, saveOf, keptImage}
-use Rattle.restoring.specs.Restore.{readTable, restoreOf}
+use Rattle.restoring.specs.Restore.{readTable, restoreOf, Restores}
+use Rattle.restoring.specs.declared.Restored.the-variants as restored
 
 -- as `new` makes it, in two arrays that hold what they hold
 abbrev pub new : List ℕ → List ℤ → Table
@@ -161,8 +162,13 @@ pub record Unharmed (w v : Table) : Type 0 where
       × ((what : List ℕ) → strictTo w (l .out) ≡ refused what → getD what 0 0 ≡ 20)
       × ((strictTo w (l .out) ≡ gave (length (imageFor w))) ↔ (listedFor w l ≡ read (keptIn w) (bitsOf (l .following))))
 
--- from a new table in any two such arrays, by any events: each offer is told what it is told without the saves and restores, and the table is unharmed
+-- by any events from the table w on: each offer is told what it is told without the saves and restores, and the table is unharmed
+abbrev pub GoesOn : Table → Type 0
+GoesOn w = (es : List Event) → Proper es → (answers w es ≡ answers w (offersIn es)) × Unharmed (ranTo w es) (ranTo w (offersIn es))
+
+-- from a new table in any two arrays of at least 8,192 places; and from each table that `restore` leaves, with the state t that it gives: of any bytes
+-- that it accepts, whoever wrote them
 abbrev pub Demand : Type 0
-Demand = (seqs : List ℕ) (secs : List ℤ) (es : List Event) → Lent seqs secs → Proper es
-    → (answers (new seqs secs) es ≡ answers (new seqs secs) (offersIn es))
-    × Unharmed (ranTo (new seqs secs) es) (ranTo (new seqs secs) (offersIn es))
+Demand =
+    ((seqs : List ℕ) (secs : List ℤ) → Lent seqs secs → GoesOn (new seqs secs))
+    × ((bytes seqs seqs′ : List ℕ) (secs secs′ : List ℤ) (t : SequenceTracker) → Restores bytes seqs secs (restored.Table t) seqs′ secs′ → GoesOn (whole t seqs′ secs′))
