@@ -1,5 +1,5 @@
 //! The library's functions as they are: layout, memory, stack.
-use crate::Case;
+use crate::run::Case;
 use skutlaneb::sys::{self, Answer, State, TableAnswer};
 use std::mem::{offset_of, size_of};
 use std::ptr::{null, null_mut};
