@@ -8,6 +8,7 @@ mod lists;
 mod pairs;
 mod raw;
 mod run;
+mod stack;
 mod tables;
 mod times;
 mod values;
@@ -15,6 +16,6 @@ mod values;
 #[no_mangle]
 pub extern "C" fn main(_argc: i32, _argv: *const *const u8) -> i32 {
     let tracker = [tables::CASES, pairs::CASES, lists::CASES, images::CASES];
-    let others = [values::CASES, times::CASES, errors::CASES, arrays::CASES, bits::CASES, raw::CASES];
+    let others = [values::CASES, times::CASES, errors::CASES, arrays::CASES, bits::CASES, raw::CASES, stack::CASES];
     run::run(&[tracker.concat(), others.concat()].concat())
 }
