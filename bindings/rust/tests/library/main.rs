@@ -2,6 +2,7 @@
 #![no_main]
 mod arrays;
 mod bits;
+mod claims;
 mod errors;
 mod images;
 mod lists;
@@ -15,7 +16,7 @@ mod values;
 
 #[no_mangle]
 pub extern "C" fn main(_argc: i32, _argv: *const *const u8) -> i32 {
-    let tracker = [tables::CASES, pairs::CASES, lists::CASES, images::CASES];
+    let tracker = [tables::CASES, pairs::CASES, lists::CASES, images::CASES, claims::CASES];
     let others = [values::CASES, times::CASES, errors::CASES, arrays::CASES, bits::CASES, raw::CASES, stack::CASES];
     run::run(&[tracker.concat(), others.concat()].concat())
 }
