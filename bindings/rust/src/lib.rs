@@ -18,8 +18,8 @@
 //! # }
 //! ```
 //!
-//! What slatedb panics at or answers in silence is an [`Error`] here, with the number of the project's list of refusals. A refused call leaves the table as it
-//! was; [`SequenceTracker::insert_all`] and [`SequenceTracker::extend_from`] keep the pairs before the refused one.
+//! A refusal is an [`Error`], with its number in the list of refusals in docs/RULES.md, also where slatedb panics. A refused call leaves the table as it
+//! was; [`SequenceTracker::insert_all`] and [`SequenceTracker::extend_from`] keep what came of the pairs before the refused one.
 //!
 //! [`image`] writes and reads images with no table, [`bits`] has the library's calls for bits, and [`sys`] the library's functions as they are.
 //!

@@ -26,8 +26,9 @@ pub use pairs::Pairs;
 ///
 /// # What a call costs
 ///
-/// Every call checks the whole table and is refused where the check fails, so that a wrong answer is not given in silence. The check takes some 8 instructions
-/// for each kept pair. Of lookups, [`SequenceTracker::find_ts`] says what that comes to and what to do about it; of offers, [`SequenceTracker::insert_all`] checks once.
+/// Every offer, lookup and save checks the whole table and is refused where the check fails, so that a wrong answer is not given in silence. The check takes
+/// some 8 instructions for each kept pair. Of lookups, [`SequenceTracker::find_ts`] says what that comes to and what to do about it; of a list of offers,
+/// [`SequenceTracker::insert_all`] checks once.
 ///
 /// # Clones and `==`
 ///

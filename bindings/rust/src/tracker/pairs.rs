@@ -35,7 +35,7 @@ impl ExactSizeIterator for Pairs<'_> {}
 impl FusedIterator for Pairs<'_> {}
 
 impl SequenceTracker {
-    /// The kept pairs, in order.
+    /// The kept pairs, in order. They are not checked here: [`SequenceTracker::check`] does that.
     pub fn pairs(&self) -> Pairs<'_> {
         // No state that a call returns counts more pairs than the arrays have places.
         let n = self.len();

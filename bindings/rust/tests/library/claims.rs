@@ -5,6 +5,7 @@ use skutlaneb::FindOption::{RoundDown, RoundUp};
 use skutlaneb::{sys, Error, Inserted, Second, Seq, SequenceTracker, TrackedSeq};
 
 pub const CASES: &[Case] = &[
+    ("at the default settings a strictly saved table comes back as it was, also once it has dropped pairs", comes_back),
     ("at other settings a strictly saved table comes back with other ones", other_settings),
     ("a table that is not strict, saved plainly, comes back as another one", not_strict),
     ("a state that no call returned, saved strictly, comes back with its last kept second", no_calls_state),
@@ -15,6 +16,18 @@ pub const CASES: &[Case] = &[
     ("equal tables may answer the same offer differently", equal_but_other),
     ("a table is checked, and questions to a copy of its pairs are answered as the lookups answer them", copied),
 ];
+
+fn comes_back() {
+    let offers: Vec<TrackedSeq> = (0..8200).map(|i| pair(64 * i, 60 * i as i64)).collect();
+    let mut tracker = SequenceTracker::new();
+    for some in [&offers[..8192], &offers[8192..8193], &offers[8193..]] {
+        tracker.insert_all(some).unwrap();
+        let back = SequenceTracker::from_bytes(&tracker.to_bytes_strict().unwrap()).unwrap();
+        assert_eq!(format!("{back:?}"), format!("{tracker:?}"));
+        tracker = back;
+    }
+    assert_eq!((tracker.len(), tracker.last_recorded()), (4104, Some(Second(60 * 8199))));
+}
 
 fn other_settings() {
     let saved = table(3, 0, &[(1, 10), (2, 20), (3, 30), (4, 40)]);
