@@ -8,14 +8,14 @@ fn main() -> Result<(), Box<dyn std::error::Error>> {
         tracker.insert(TrackedSeq { seq: Seq(seq), ts: Second(second) })?;
     }
 
-    // `to_bytes` writes the same bytes as slatedb. `to_bytes_strict` does, too, but refuses a table that they would bring back as another one.
+    // `to_bytes` writes the same bytes as slatedb. `to_bytes_strict` does, too, but refuses pairs that they would bring back as other pairs.
     let stored = tracker.to_bytes_strict()?;
     let restored = SequenceTracker::from_bytes(&stored)?;
     if let Some(second) = restored.find_ts(200, FindOption::RoundDown)? {
         println!("sequence 200 was written in second {second} or later");
     }
 
-    // Damaged bytes are refused, with the number of the list of refusals and a sentence.
+    // Bytes that were cut short are refused, with the number of the list of refusals and a sentence.
     if let Err(error) = SequenceTracker::from_bytes(&stored[..stored.len() - 1]) {
         println!("refused {}: {error}", error.number());
     }

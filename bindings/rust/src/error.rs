@@ -1,9 +1,9 @@
-//! Refusals, by document 01's numbers.
+//! Refusals, by the numbers of the list of refusals in docs/RULES.md.
 use crate::sys::Answer;
 use std::fmt;
 
-/// One of the two arrays of an image.
-#[derive(Clone, Copy, Debug, PartialEq, Eq)]
+/// One of the two arrays of an image, in the order in which they stand there.
+#[derive(Clone, Copy, Debug, PartialEq, Eq, PartialOrd, Ord, Hash)]
 pub enum Array {
     /// The sequence numbers.
     Sequences,
@@ -30,9 +30,9 @@ impl fmt::Display for Array {
     }
 }
 
-/// Why a call was refused: document 01's number, with what it also tells. `array` says which of the two it was, and `index`, counted
-/// from 0, at which of its values.
-#[derive(Clone, Copy, Debug, PartialEq, Eq)]
+/// Why a call was refused: a number of the list of refusals in docs/RULES.md, with what it also tells. `array` says which of the two it was, and `index`,
+/// counted from 0, at which of its values.
+#[derive(Clone, Copy, Debug, PartialEq, Eq, Hash)]
 #[non_exhaustive]
 pub enum Error {
     /// 1: the input is empty.
@@ -88,7 +88,7 @@ pub enum Error {
 }
 
 impl Error {
-    /// Document 01's number.
+    /// The number in the list of refusals in docs/RULES.md.
     pub fn number(&self) -> u32 {
         match *self {
             Error::Empty => 1,

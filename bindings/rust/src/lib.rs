@@ -1,5 +1,8 @@
-//! Which second does a stored sequence number belong to? slatedb's `SequenceTracker`, over a library of which every function is
-//! proved: a table cannot come back from storage other than it was saved without an error.
+//! Which second does a stored sequence number belong to? slatedb's `SequenceTracker`, over a library of which every function is proved. This crate itself is
+//! not proved; it is tested against the library.
+//!
+//! A table at the default settings (capacity 8,192, interval 60), made by [`SequenceTracker::new`] or [`SequenceTracker::from_bytes`] and by offers alone, and
+//! saved by [`SequenceTracker::to_bytes_strict`], cannot come back from bytes that nobody changed other than it was saved without an error.
 //!
 //! ```no_run
 //! use skutlaneb::{FindOption, Second, Seq, SequenceTracker, TrackedSeq};
@@ -15,18 +18,28 @@
 //! # }
 //! ```
 //!
-//! What slatedb panics at or answers in silence is an [`Error`] here, with the number of the project's list of refusals. A refused call leaves the table as it
-//! was; [`SequenceTracker::insert_all`] and [`SequenceTracker::extend_from`] keep the pairs before the refused one.
+//! A refusal is an [`Error`], with its number in the list of refusals in docs/RULES.md, also where slatedb panics. A refused call leaves the table as it
+//! was; [`SequenceTracker::insert_all`] and [`SequenceTracker::extend_from`] keep what came of the pairs before the refused one.
 //!
-//! The library is `libskutlaneb.a`, for x86-64; `rt staticlib skutlaneb` in the project's folder writes it. Calls use no heap; this crate
+//! [`image`] writes and reads images with no table, [`bits`] has the library's calls for bits, and [`sys`] the library's functions as they are.
+//!
+//! The library is `libskutlaneb.a`, for x86-64; `rt staticlib skutlaneb` in the project's folder writes it. Its calls use no heap; this crate
 //! owns the arrays that it lends them.
+#![deny(unsafe_code)]
+
+pub mod bits;
+#[allow(unsafe_code)]
+mod calls;
 mod error;
+pub mod image;
 mod lists;
 pub mod sys;
+mod times;
 mod tracker;
 mod values;
 
 pub use error::{Array, Error};
 pub use lists::{ListError, Tally};
-pub use tracker::{FindOption, Inserted, SequenceTracker};
+pub use times::NoSystemTime;
+pub use tracker::{FindOption, Inserted, Pairs, SequenceTracker};
 pub use values::{Second, Seq, TrackedSeq};

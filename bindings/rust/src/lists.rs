@@ -3,14 +3,17 @@ use crate::Error;
 use std::fmt;
 
 /// How many of a list's pairs were recorded and how many skipped.
-#[derive(Clone, Copy, Debug, PartialEq, Eq)]
+#[derive(Clone, Copy, Debug, Default, PartialEq, Eq, Hash)]
 pub struct Tally {
     pub recorded: u64,
     pub skipped: u64,
 }
 
-/// Why a list of offers did not go to its end.
-#[derive(Clone, Copy, Debug, PartialEq, Eq)]
+/// Why a list of offers did not go to its end. Its sentence says where it stopped; [`ListError::why`] and `source` say why.
+///
+/// A `ListError` becomes an [`Error`], by `?` too, which drops the place. There is no way back: an `Error` says neither at which pair nor of which table it is,
+/// and a place made up here would be a false one.
+#[derive(Clone, Copy, Debug, PartialEq, Eq, Hash)]
 pub enum ListError {
     /// The pair at this position, counted from 0, is refused. Those before it were offered, and the table keeps what came of them.
     Stopped { at: u64, why: Error, before: Tally },
@@ -23,20 +26,39 @@ pub enum ListError {
 impl ListError {
     /// The refusal.
     pub fn why(&self) -> Error {
-        match *self {
+        *self.inner()
+    }
+
+    /// The refusal's number in the list of refusals in docs/RULES.md.
+    pub fn number(&self) -> u32 {
+        self.inner().number()
+    }
+
+    fn inner(&self) -> &Error {
+        match self {
             ListError::Stopped { why, .. } | ListError::Own(why) | ListError::Other(why) => why,
         }
+    }
+}
+
+impl From<ListError> for Error {
+    fn from(error: ListError) -> Error {
+        error.why()
     }
 }
 
 impl fmt::Display for ListError {
     fn fmt(&self, f: &mut fmt::Formatter<'_>) -> fmt::Result {
         match self {
-            ListError::Stopped { at, why, .. } => write!(f, "pair {at} is refused, and those before it are kept: {why}"),
-            ListError::Own(why) => write!(f, "nothing was offered: {why}"),
-            ListError::Other(why) => write!(f, "nothing was offered, as the other table is bad: {why}"),
+            ListError::Stopped { at, .. } => write!(f, "pair {at} is refused, and what came of those before it is kept"),
+            ListError::Own(_) => f.write_str("nothing was offered, as the table is bad"),
+            ListError::Other(_) => f.write_str("nothing was offered, as the other table is bad"),
         }
     }
 }
 
-impl std::error::Error for ListError {}
+impl std::error::Error for ListError {
+    fn source(&self) -> Option<&(dyn std::error::Error + 'static)> {
+        Some(self.inner())
+    }
+}

@@ -1,8 +1,8 @@
-//! The static library's functions as they are, for what the tracker does not offer: images of two arrays, and bits.
+//! The static library's functions as they are, for who keeps a table's arrays and state.
 //! `bindings/c/skutlaneb.h` says of each what it gives and which numbers refuse it.
 //!
-//! A slice crosses as a pointer and a length. No number makes a call misread; the caller answers for the memory that the pointers
-//! and lengths name, and that what is written to overlaps nothing else of the same call.
+//! A slice crosses as a pointer and a length. No number makes a call misread, if every pointer and its length name memory of the caller's own, aligned as its
+//! type asks, and what is written to overlaps nothing else of the same call; a length of 0 needs no memory.
 
 /// Number 0 and the values that a call gives, or the number of its refusal and what that also tells.
 #[repr(C)]
@@ -15,6 +15,9 @@ pub struct Answer {
 }
 
 /// A table's state, as calls return it and take it. `has_last` is 0 or 1: a state with any other number there is refused (14).
+///
+/// A state that no call returned may be accepted: one pair (1, 10) and `last` 20, at the default settings, is a good table. An image has the pairs only, so
+/// that this one, saved strictly, comes back with `last` 10.
 #[repr(C)]
 #[derive(Clone, Copy, Debug, PartialEq, Eq)]
 pub struct State {

@@ -1,17 +1,32 @@
 //! Sequence numbers and seconds: two types, so that one is not passed as the other.
 use std::fmt;
-use std::time::{SystemTime, UNIX_EPOCH};
 
 /// A sequence number.
 #[derive(Clone, Copy, Debug, PartialEq, Eq, PartialOrd, Ord, Hash)]
 pub struct Seq(pub u64);
 
 /// Seconds since 1970-01-01T00:00:00Z, negative before it.
+///
+/// A [`SystemTime`](std::time::SystemTime) becomes a `Second` by `from`, and a `Second` one of those by `try_from`. This crate does not depend on chrono.
+/// With it, a `DateTime<Utc>` becomes the second that slatedb takes from it, and a second the date that slatedb answers, by these lines:
+///
+/// ```ignore
+/// let second = Second(date.timestamp());
+/// let date = DateTime::from_timestamp(second.0, 0); // none where chrono has no such date
+/// ```
+///
+/// By way of `SystemTime` the same comes out, with two exceptions: a leap second becomes the second after it, and `DateTime::from` panics where chrono has no
+/// such date, far outside the years 0001 to 9999.
+///
+/// ```ignore
+/// let second = Second::from(SystemTime::from(date));
+/// let date = DateTime::<Utc>::from(SystemTime::try_from(second)?);
+/// ```
 #[derive(Clone, Copy, Debug, PartialEq, Eq, PartialOrd, Ord, Hash)]
 pub struct Second(pub i64);
 
-/// A sequence number and the second that it belongs to.
-#[derive(Clone, Copy, Debug, PartialEq, Eq)]
+/// A sequence number and the second that it belongs to. Pairs are ordered by the sequence number, and those of one sequence number by the second.
+#[derive(Clone, Copy, Debug, PartialEq, Eq, PartialOrd, Ord, Hash)]
 pub struct TrackedSeq {
     pub seq: Seq,
     pub ts: Second,
@@ -23,24 +38,33 @@ impl From<u64> for Seq {
     }
 }
 
+impl From<Seq> for u64 {
+    fn from(seq: Seq) -> u64 {
+        seq.0
+    }
+}
+
 impl From<i64> for Second {
     fn from(second: i64) -> Second {
         Second(second)
     }
 }
 
-/// The second that has begun, as `DateTime::timestamp` of chrono gives it: also before 1970 the earlier one. A time that 64 bits do not hold becomes the
-/// nearest that they hold; it is outside the years 0001 to 9999, so that offering it is refused.
-impl From<SystemTime> for Second {
-    fn from(time: SystemTime) -> Second {
-        match time.duration_since(UNIX_EPOCH) {
-            Ok(after) => Second(i64::try_from(after.as_secs()).unwrap_or(i64::MAX)),
-            Err(e) => {
-                let before = e.duration();
-                let whole = before.as_secs().saturating_add(u64::from(before.subsec_nanos() > 0));
-                Second(i64::try_from(whole).map_or(i64::MIN, |secs| -secs))
-            }
-        }
+impl From<Second> for i64 {
+    fn from(second: Second) -> i64 {
+        second.0
+    }
+}
+
+impl From<(u64, i64)> for TrackedSeq {
+    fn from((seq, second): (u64, i64)) -> TrackedSeq {
+        TrackedSeq { seq: Seq(seq), ts: Second(second) }
+    }
+}
+
+impl From<TrackedSeq> for (u64, i64) {
+    fn from(pair: TrackedSeq) -> (u64, i64) {
+        (pair.seq.0, pair.ts.0)
     }
 }
 

@@ -1,5 +1,5 @@
 //! Refusals, by number and in words.
-use crate::Case;
+use crate::run::Case;
 use skutlaneb::sys::Answer;
 use skutlaneb::{Array, Error};
 

@@ -1,7 +1,8 @@
 //! Images: written, read back, damaged.
+use crate::run::Case;
 use crate::tables::{kept, pair, table};
-use crate::Case;
-use skutlaneb::{sys, Array, Error, FindOption, Inserted, SequenceTracker};
+use skutlaneb::image::encode_pairs;
+use skutlaneb::{Array, Error, FindOption, Inserted, SequenceTracker};
 
 pub const CASES: &[Case] = &[
     ("the empty table's image", empty),
@@ -31,6 +32,8 @@ fn two_pairs() {
     assert_eq!(tracker.to_bytes().unwrap(), TWO_PAIRS);
     assert_eq!(tracker.to_bytes_strict().unwrap(), TWO_PAIRS);
     assert_eq!(SequenceTracker::from_bytes(&TWO_PAIRS).unwrap(), tracker);
+    assert_eq!(SequenceTracker::try_from(&TWO_PAIRS[..]), Ok(tracker));
+    assert_eq!(SequenceTracker::try_from(&TWO_PAIRS[..4]), Err(Error::HeaderCut));
 }
 
 fn goes_on() {
@@ -112,11 +115,8 @@ fn other_bytes() {
 
 /// The image of two arrays, whatever stands in them.
 fn image_of(seqs: &[u64], secs: &[i64]) -> Vec<u8> {
-    let mut out = vec![0; 9 * seqs.len() + 21];
-    let written = unsafe { sys::skut_encode(seqs.as_ptr(), seqs.len(), secs.as_ptr(), secs.len(), out.as_mut_ptr(), out.len()) };
-    assert_eq!(written.number, 0);
-    out.truncate(written.a as usize);
-    out
+    let pairs: Vec<_> = seqs.iter().zip(secs).map(|(&seq, &sec)| pair(seq, sec)).collect();
+    encode_pairs(&pairs).unwrap()
 }
 
 fn out_of_order() {
@@ -144,7 +144,7 @@ fn any_bytes() {
         state
     };
     let mut restored = 0;
-    for _ in 0..20_000 {
+    for _ in 0..500 {
         let mut image = TWO_PAIRS.to_vec();
         image[chance() as usize % TWO_PAIRS.len()] = chance() as u8;
         image.truncate(TWO_PAIRS.len() + 1 - chance() as usize % 3);
@@ -155,5 +155,5 @@ fn any_bytes() {
             }
         }
     }
-    assert!(restored > 1000);
+    assert!(restored > 100);
 }

@@ -1,7 +1,8 @@
 //! Lists of offers.
+use crate::run::Case;
 use crate::tables::{kept, pair, table};
-use crate::Case;
-use skutlaneb::{Error, ListError, SequenceTracker, Tally};
+use skutlaneb::{Error, ListError, SequenceTracker, Tally, TrackedSeq};
+use std::error::Error as _;
 
 pub const CASES: &[Case] = &[
     ("a list gives what its pairs give one by one", as_one_by_one),
@@ -9,6 +10,8 @@ pub const CASES: &[Case] = &[
     ("an empty list does nothing", empty),
     ("another table's pairs are offered in order", extended),
     ("a list's refusal says what is kept", sentences),
+    ("a list's refusal has its number and its source", why),
+    ("a list's refusal becomes an error by ?", as_error),
 ];
 
 fn as_one_by_one() {
@@ -57,13 +60,32 @@ fn extended() {
 }
 
 fn sentences() {
-    let mut tracker = table(8, 0, &[(5, 0)]);
-    let refused = tracker.insert_all(&[pair(6, 1), pair(4, 2)]).unwrap_err();
-    assert_eq!(
-        refused.to_string(),
-        "pair 1 is refused, and those before it are kept: the sequence number is below the last one that the table keeps"
-    );
+    let refused = stopped_at_1();
+    assert_eq!(refused.to_string(), "pair 1 is refused, and what came of those before it is kept");
     let own = ListError::Own(Error::StateDisagrees).to_string();
     let other = ListError::Other(Error::StateDisagrees).to_string();
     assert!(own != other && other.contains("other table"));
+}
+
+fn why() {
+    let refused = stopped_at_1();
+    assert_eq!((refused.why(), refused.number()), (Error::OfferedDrops, 17));
+    assert_eq!(refused.source().and_then(|source| source.downcast_ref()), Some(&Error::OfferedDrops));
+    for (error, number) in [(ListError::Own(Error::StateDisagrees), 14), (ListError::Other(Error::SecondDrops { index: 3 }), 12)] {
+        assert_eq!((error.number(), error.source().map(|source| source.to_string())), (number, Some(error.why().to_string())));
+    }
+}
+
+/// In a function that answers an `Error`, `?` takes a list's refusal too.
+fn as_error() {
+    fn offered(pairs: &[TrackedSeq]) -> Result<Tally, Error> {
+        let mut tracker = SequenceTracker::with_config(8, 0)?;
+        Ok(tracker.insert_all(pairs)?)
+    }
+    assert_eq!(offered(&[pair(5, 0), pair(6, 1)]), Ok(Tally { recorded: 2, skipped: 0 }));
+    assert_eq!(offered(&[pair(5, 0), pair(4, 2)]), Err(Error::OfferedDrops));
+}
+
+fn stopped_at_1() -> ListError {
+    table(8, 0, &[(5, 0)]).insert_all(&[pair(6, 1), pair(4, 2)]).unwrap_err()
 }

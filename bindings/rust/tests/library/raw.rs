@@ -1,5 +1,5 @@
-//! The library's functions as they are: layout, memory, stack.
-use crate::Case;
+//! The library's functions as they are: layout, memory, states that no call returned.
+use crate::run::Case;
 use skutlaneb::sys::{self, Answer, State, TableAnswer};
 use std::mem::{offset_of, size_of};
 use std::ptr::{null, null_mut};
@@ -10,7 +10,6 @@ pub const CASES: &[Case] = &[
     ("a state that no call returned is refused by 14", forged),
     ("a mark that is neither 0 nor 1 is refused by 14, by every call", neither),
     ("lists of different length are refused by 18, before the table", uneven),
-    ("no call needs more stack than the header says", stack),
 ];
 
 fn layout() {
@@ -94,116 +93,4 @@ fn uneven() {
         assert_eq!(told, refused, "{n} sequences, {m} seconds");
     }
     assert_eq!((seqs, secs), ([7; 4], [7; 4]));
-}
-
-const PAIRS: usize = 8192;
-const ROOM: usize = 80_000;
-
-static mut SEQS: [u64; PAIRS] = [0; PAIRS];
-static mut SECS: [i64; PAIRS] = [0; PAIRS];
-static mut BYTES: [u8; ROOM] = [0; ROOM];
-
-/// A full table, and memory that is lent to the calls, so that these need no stack for it.
-struct Lent {
-    state: State,
-    seqs: *mut u64,
-    secs: *mut i64,
-    bytes: *mut u8,
-}
-
-fn lent() -> Lent {
-    Lent {
-        state: State { count: PAIRS, capacity: PAIRS as u32, has_last: 1, interval_secs: 0, last: PAIRS as i64 },
-        seqs: &raw mut SEQS as *mut u64,
-        secs: &raw mut SECS as *mut i64,
-        bytes: &raw mut BYTES as *mut u8,
-    }
-}
-
-/// The table's pairs, of which no code is one bit, and their image.
-fn laid_out() {
-    let l = lent();
-    for i in 0..PAIRS {
-        unsafe {
-            *l.seqs.add(i) = (i * i % 5 + 10 * i) as u64;
-            *l.secs.add(i) = (i - i % 3) as i64;
-        }
-    }
-    assert_eq!(unsafe { sys::skut_save_strict(l.state, l.seqs, PAIRS, l.secs, PAIRS, l.bytes, ROOM) }.number, 0);
-}
-
-/// Each call where it does all of its work.
-#[rustfmt::skip]
-const CALLS: &[(&str, fn(Lent))] = &[
-    ("skut_new", |_| done(unsafe { sys::skut_new() }.answer)),
-    ("skut_with_config", |_| done(unsafe { sys::skut_with_config(4, 0) }.answer)),
-    ("skut_check", |l| done(unsafe { sys::skut_check(l.state, l.seqs, PAIRS, l.secs, PAIRS) })),
-    ("skut_offer", |l| done(unsafe { sys::skut_offer(l.state, l.seqs, PAIRS, l.secs, PAIRS, 90_000, 9000) }.answer)),
-    ("skut_offer_pairs", |l| done(unsafe { sys::skut_offer_pairs(l.state, l.seqs, PAIRS, l.secs, PAIRS, &90_000, 1, &9000, 1) }.answer)),
-    ("skut_extend_from", |l| {
-        let other = State { count: 1, capacity: 1, has_last: 1, interval_secs: 0, last: 9000 };
-        done(unsafe { sys::skut_extend_from(l.state, l.seqs, PAIRS, l.secs, PAIRS, other, &90_000, 1, &9000, 1) }.answer)
-    }),
-    ("skut_find_ts", |l| done(unsafe { sys::skut_find_ts(l.state, l.seqs, PAIRS, l.secs, PAIRS, 3, 0) })),
-    ("skut_find_seq", |l| done(unsafe { sys::skut_find_seq(l.state, l.seqs, PAIRS, l.secs, PAIRS, 3, 0) })),
-    ("skut_save", |l| done(unsafe { sys::skut_save(l.state, l.seqs, PAIRS, l.secs, PAIRS, l.bytes, ROOM) })),
-    ("skut_save_strict", |l| done(unsafe { sys::skut_save_strict(l.state, l.seqs, PAIRS, l.secs, PAIRS, l.bytes, ROOM) })),
-    ("skut_restore", |l| done(unsafe { sys::skut_restore(l.bytes, ROOM, l.seqs, PAIRS, l.secs, PAIRS) }.answer)),
-    ("skut_encoded_len", |l| done(unsafe { sys::skut_encoded_len(l.seqs, PAIRS, l.secs, PAIRS) })),
-    ("skut_encode", |l| done(unsafe { sys::skut_encode(l.seqs, PAIRS, l.secs, PAIRS, l.bytes, ROOM) })),
-    ("skut_encode_strict", |l| done(unsafe { sys::skut_encode_strict(l.seqs, PAIRS, l.secs, PAIRS, l.bytes, ROOM) })),
-    ("skut_decode", |l| done(unsafe { sys::skut_decode(l.bytes, ROOM, l.seqs, PAIRS, l.secs, PAIRS) })),
-    ("skut_image_len", |l| done(unsafe { sys::skut_image_len(l.bytes, ROOM) })),
-    ("skut_sign_extend", |_| done(unsafe { sys::skut_sign_extend(64, 7) })),
-    ("skut_read_bits", |l| done(unsafe { sys::skut_read_bits(l.bytes, ROOM, 3, 3, 64) })),
-    ("skut_write_bits", |l| done(unsafe { sys::skut_write_bits(l.bytes, ROOM, 3, 3, 7, 64) })),
-];
-
-/// A refused call may have done less than the others. The process ends here, as nothing can unwind from the painted stack.
-fn done(answer: Answer) {
-    if answer.number != 0 {
-        std::process::abort();
-    }
-}
-
-/// The bytes of stack that a call of the list writes to: it runs on memory that was painted before.
-fn stack_of(index: usize) -> usize {
-    extern "C" fn run(index: usize) {
-        CALLS[index].1(lent());
-    }
-    const STACK: usize = 256 * 1024;
-    let mut painted = vec![0xA5u8; STACK];
-    let top = (painted.as_mut_ptr() as usize + STACK) & !15;
-    unsafe {
-        std::arch::asm!(
-            "mov r12, rsp",
-            "mov rsp, {top}",
-            "call {run}",
-            "mov rsp, r12",
-            top = in(reg) top,
-            run = in(reg) run as extern "C" fn(usize),
-            in("rdi") index,
-            out("r12") _,
-            clobber_abi("C"),
-        );
-    }
-    STACK - painted.iter().take_while(|&&byte| byte == 0xA5).count()
-}
-
-/// The bytes of stack that the header says a call needs.
-fn declared(name: &str) -> usize {
-    let header = include_str!("../../../c/skutlaneb.h");
-    let before = header.split(&format!(" {name}(")).next().expect("split gives a part");
-    let said = before.rsplit("Stack: ").next().expect("split gives a part");
-    said.split(' ').next().and_then(|bytes| bytes.replace(',', "").parse().ok()).expect("the header says how much stack a call needs")
-}
-
-fn stack() {
-    for (index, &(name, _)) in CALLS.iter().enumerate() {
-        laid_out();
-        let (used, most) = (stack_of(index), declared(name));
-        println!("   {name}: {used} of {most} bytes of stack");
-        assert!(used <= most && most <= 256 * 1024);
-    }
-    assert_eq!(include_str!("../../../c/skutlaneb.h").matches("Stack: ").count(), CALLS.len());
 }

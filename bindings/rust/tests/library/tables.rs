@@ -1,5 +1,5 @@
 //! Settings, offers and lookups.
-use crate::Case;
+use crate::run::Case;
 use skutlaneb::FindOption::{RoundDown, RoundUp};
 use skutlaneb::{Error, Inserted, Second, Seq, SequenceTracker, TrackedSeq};
 
@@ -143,4 +143,6 @@ fn equality() {
     assert_ne!(one, table(3, 1, &[(1, 10), (3, 30)]));
     assert_ne!(one, table(4, 0, &[(1, 10), (3, 30)]));
     assert_ne!(one, table(3, 0, &[(1, 10), (3, 31)]));
+    fn is_eq<T: Eq>(_: &T) {}
+    is_eq(&one);
 }

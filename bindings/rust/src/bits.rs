@@ -1,0 +1,28 @@
+//! Bits of bytes, the most significant first. The numbers are those of the list of refusals in docs/RULES.md.
+use crate::calls::{self, done};
+use crate::Error;
+
+/// A place between bits: a byte, and a bit of it from 0 to 7. One past the end, or with a bit above 7, counts as the end.
+#[derive(Clone, Copy, Debug, Default, PartialEq, Eq, PartialOrd, Ord, Hash)]
+pub struct Place {
+    pub byte: usize,
+    pub bit: u8,
+}
+
+/// Reads 0 to 64 bits: their value, and the place after them. Refused where the width is above 64 (23), then where fewer bits are left (24).
+pub fn read_bits(bytes: &[u8], at: Place, width: u8) -> Result<(u64, Place), Error> {
+    let read = done(calls::read_bits(bytes, at.byte, at.bit, width))?;
+    Ok((read.a, Place { byte: read.b as usize, bit: read.c as u8 }))
+}
+
+/// Writes the low 0 to 64 bits of a value, and answers the place after them. What is left of the last byte becomes 0. Refused where the width is above 64 (23),
+/// then where the buffer is too short (21, with the bytes needed); the buffer is then as it was.
+pub fn write_bits(buf: &mut [u8], at: Place, value: u64, width: u8) -> Result<Place, Error> {
+    let written = done(calls::write_bits(buf, at.byte, at.bit, value, width))?;
+    Ok(Place { byte: written.a as usize, bit: written.b as u8 })
+}
+
+/// The low `bits` bits of a value as a signed number. Refused where the width is outside 1 to 32 (23).
+pub fn sign_extend(val: u32, bits: u8) -> Result<i64, Error> {
+    done(calls::sign_extend(val, bits)).map(|told| told.a as i64)
+}

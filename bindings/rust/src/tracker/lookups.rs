@@ -1,0 +1,57 @@
+//! Lookups.
+use super::SequenceTracker;
+use crate::calls::{self, done};
+use crate::{Error, Second, Seq};
+
+/// What a lookup answers where no key is equal to the one asked for.
+#[derive(Clone, Copy, Debug, PartialEq, Eq, Hash)]
+pub enum FindOption {
+    /// The next higher one.
+    RoundUp,
+    /// The next lower one.
+    RoundDown,
+}
+
+impl FindOption {
+    fn number(self) -> u32 {
+        match self {
+            FindOption::RoundUp => 0,
+            FindOption::RoundDown => 1,
+        }
+    }
+}
+
+impl SequenceTracker {
+    /// The second of a sequence number. Among equal sequences the first one kept answers.
+    ///
+    /// # What a lookup costs
+    ///
+    /// Each one checks the whole table first, some 8 instructions for each kept pair. In 8,192 pairs it takes some 200 times the instructions of slatedb's, in
+    /// 512 some 17 times, in one pair not more than slatedb's (docs/SPEED.md). What to do about it:
+    ///
+    /// - Look up rarely: keep an answer that is asked for again, until the next offer.
+    /// - Keep the table small, by a smaller capacity; but storage brings a table back with capacity 8,192.
+    /// - Ask many questions of a copy. The copy below is sound: the table is checked once, its pairs are in order then, and nobody else can change the
+    ///   copy. The search is the caller's own code, and not proved.
+    ///
+    /// ```no_run
+    /// # use skutlaneb::{Error, Second, Seq, SequenceTracker, TrackedSeq};
+    /// /// For each sequence number what `find_ts` answers with `RoundUp`.
+    /// fn seconds(tracker: &SequenceTracker, asked: &[Seq]) -> Result<Vec<Option<Second>>, Error> {
+    ///     tracker.check()?;
+    ///     let pairs: Vec<TrackedSeq> = tracker.pairs().collect();
+    ///     let first_not_below = |seq: &Seq| pairs.partition_point(|pair| pair.seq < *seq);
+    ///     Ok(asked.iter().map(|seq| pairs.get(first_not_below(seq)).map(|pair| pair.ts)).collect())
+    /// }
+    /// ```
+    pub fn find_ts(&self, seq: impl Into<Seq>, opt: FindOption) -> Result<Option<Second>, Error> {
+        let found = done(calls::find_ts(self.state, &self.seqs, &self.secs, seq.into().0, opt.number()))?;
+        Ok((found.a == 1).then_some(Second(found.b as i64)))
+    }
+
+    /// The sequence number of a second. Among equal seconds the first one kept answers. It costs what [`SequenceTracker::find_ts`] costs.
+    pub fn find_seq(&self, ts: impl Into<Second>, opt: FindOption) -> Result<Option<Seq>, Error> {
+        let found = done(calls::find_seq(self.state, &self.seqs, &self.secs, ts.into().0, opt.number()))?;
+        Ok((found.a == 1).then_some(Seq(found.b)))
+    }
+}

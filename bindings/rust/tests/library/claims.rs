@@ -1,0 +1,123 @@
+//! What the docs claim of storage and of cost, and where the claims end.
+use crate::run::Case;
+use crate::tables::{kept, pair, table};
+use skutlaneb::FindOption::{RoundDown, RoundUp};
+use skutlaneb::{sys, Error, Inserted, Second, Seq, SequenceTracker, TrackedSeq};
+
+pub const CASES: &[Case] = &[
+    ("at the default settings a strictly saved table comes back as it was, also once it has dropped pairs", comes_back),
+    ("at other settings a strictly saved table comes back with other ones", other_settings),
+    ("a table that is not strict, saved plainly, comes back as another one", not_strict),
+    ("a state that no call returned, saved strictly, comes back with its last kept second", no_calls_state),
+    ("of an image of two pairs, with each bit another: 133 refused, 11 the same, 120 other tables", flipped_33),
+    ("of an image of sixteen pairs, with each bit another: 182 refused, 5 the same, 365 other tables", flipped_69),
+    ("a changed byte reads as another table", other_pairs),
+    ("a clone is the table with its last recorded second, in arrays of its own", clones),
+    ("equal tables may answer the same offer differently", equal_but_other),
+    ("a table is checked, and questions to a copy of its pairs are answered as the lookups answer them", copied),
+];
+
+fn comes_back() {
+    let offers: Vec<TrackedSeq> = (0..8200).map(|i| pair(64 * i, 60 * i as i64)).collect();
+    let mut tracker = SequenceTracker::new();
+    for some in [&offers[..8192], &offers[8192..8193], &offers[8193..]] {
+        tracker.insert_all(some).unwrap();
+        let back = SequenceTracker::from_bytes(&tracker.to_bytes_strict().unwrap()).unwrap();
+        assert_eq!(format!("{back:?}"), format!("{tracker:?}"));
+        tracker = back;
+    }
+    assert_eq!((tracker.len(), tracker.last_recorded()), (4104, Some(Second(60 * 8199))));
+}
+
+fn other_settings() {
+    let saved = table(3, 0, &[(1, 10), (2, 20), (3, 30), (4, 40)]);
+    assert_eq!((kept(&saved), saved.last_recorded()), (vec![(1, 10), (3, 30)], Some(Second(40))));
+    let back = SequenceTracker::from_bytes(&saved.to_bytes_strict().unwrap()).unwrap();
+    assert_eq!((kept(&back), back.last_recorded()), (vec![(1, 10), (3, 30)], Some(Second(30))));
+    assert_eq!((back.capacity(), back.interval_secs()), (8192, 60));
+}
+
+fn not_strict() {
+    let saved = table(8192, 60, &[(0, 0), (1 << 33, 60)]);
+    let back = SequenceTracker::from_bytes(&saved.to_bytes().unwrap()).unwrap();
+    assert_eq!(kept(&back), [(0, 0), (0, 60)]);
+    assert_eq!(saved.to_bytes_strict().map_err(|refused| refused.number()), Err(20));
+}
+
+fn no_calls_state() {
+    let (mut seqs, mut secs, mut out) = (vec![0; 8192], vec![0; 8192], [0; 30]);
+    (seqs[0], secs[0]) = (1, 10);
+    let state = sys::State { count: 1, capacity: 8192, has_last: 1, interval_secs: 60, last: 20 };
+    unsafe {
+        assert_eq!(sys::skut_check(state, seqs.as_ptr(), 8192, secs.as_ptr(), 8192).number, 0);
+        let saved = sys::skut_save_strict(state, seqs.as_ptr(), 8192, secs.as_ptr(), 8192, out.as_mut_ptr(), 30);
+        assert_eq!((saved.number, saved.a), (0, 29));
+        let back = sys::skut_restore(out.as_ptr(), 29, seqs.as_mut_ptr(), 8192, secs.as_mut_ptr(), 8192);
+        assert_eq!((back.answer.number, back.state), (0, sys::State { last: 10, ..state }));
+    }
+}
+
+/// Of the images that differ from a table's in one bit, how many are refused, read as the same pairs, and read as others.
+fn flipped(tracker: &SequenceTracker, bytes: usize) -> (usize, usize, usize) {
+    let mut image = tracker.to_bytes_strict().unwrap();
+    assert_eq!(image.len(), bytes);
+    let (mut refused, mut same, mut other) = (0, 0, 0);
+    for bit in 0..8 * bytes {
+        image[bit / 8] ^= 1 << (bit % 8);
+        match SequenceTracker::from_bytes(&image) {
+            Err(_) => refused += 1,
+            Ok(read) if read == *tracker && read.last_recorded() == tracker.last_recorded() => same += 1,
+            Ok(_) => other += 1,
+        }
+        image[bit / 8] ^= 1 << (bit % 8);
+    }
+    (refused, same, other)
+}
+
+fn flipped_33() {
+    let tracker = table(8192, 60, &[(100, 0), (164, 60)]);
+    assert_eq!(flipped(&tracker, 33), (133, 11, 120));
+}
+
+fn flipped_69() {
+    let pairs: Vec<(u64, i64)> = (0..16).map(|i| (100 + 100 * i * i, (60 * i + i * i) as i64)).collect();
+    assert_eq!(flipped(&table(8192, 60, &pairs), 69), (182, 5, 365));
+}
+
+fn other_pairs() {
+    let mut bytes = table(8192, 60, &[(100, 0), (164, 60)]).to_bytes_strict().unwrap();
+    bytes[16] ^= 1;
+    assert_eq!(SequenceTracker::from_bytes(&bytes).map(|read| kept(&read)), Ok(vec![(101, 0), (165, 60)]));
+}
+
+fn clones() {
+    let tracker = table(3, 0, &[(1, 10), (2, 20), (3, 30), (4, 40)]);
+    let mut clone = tracker.clone();
+    assert_eq!(format!("{clone:?}"), format!("{tracker:?}"));
+    assert_eq!(clone.insert(pair(5, 50)), Ok(Inserted::Recorded));
+    assert_eq!((kept(&tracker), tracker.last_recorded()), (vec![(1, 10), (3, 30)], Some(Second(40))));
+}
+
+fn equal_but_other() {
+    let mut one = table(3, 0, &[(1, 10), (2, 20), (3, 30), (4, 40)]);
+    let mut other = table(3, 0, &[(1, 10), (3, 30)]);
+    assert_eq!(one, other);
+    assert_eq!((one.insert(pair(5, 35)), other.insert(pair(5, 35))), (Ok(Inserted::Skipped), Ok(Inserted::Recorded)));
+}
+
+/// The search that the docs of `find_ts` show, and the same rounding down.
+fn seconds(tracker: &SequenceTracker, seq: Seq) -> Result<(Option<Second>, Option<Second>), Error> {
+    tracker.check()?;
+    let pairs: Vec<TrackedSeq> = tracker.pairs().collect();
+    let at = pairs.partition_point(|pair| pair.seq < seq);
+    let down = if pairs.get(at).is_some_and(|pair| pair.seq == seq) { Some(at) } else { at.checked_sub(1) };
+    Ok((pairs.get(at).map(|pair| pair.ts), down.map(|at| pairs[at].ts)))
+}
+
+fn copied() {
+    let tracker = table(9, 0, &[(2, 10), (2, 20), (5, 20), (5, 30), (5, 31), (9, 40)]);
+    for seq in (0..12).map(Seq) {
+        assert_eq!(seconds(&tracker, seq), Ok((tracker.find_ts(seq, RoundUp).unwrap(), tracker.find_ts(seq, RoundDown).unwrap())));
+    }
+    assert_eq!(SequenceTracker::new().check(), Ok(()));
+}

@@ -1,0 +1,142 @@
+//! The stack that each call takes, against what the header says.
+//!
+//! A call is made on painted memory, its arguments laid out here by the rules of the System V convention, so that no frame of this program stands there. What
+//! is written to is the arguments that go by the stack, the return address and what the library uses: the same in a debug and in a release build.
+use crate::run::Case;
+use skutlaneb::sys::{self, State};
+
+pub const CASES: &[Case] = &[("no call needs more stack than the header says", stack)];
+
+const HEADER: &str = include_str!("../../../c/skutlaneb.h");
+const PAIRS: usize = 8192;
+const ROOM: usize = 80_000;
+
+/// A full table, and memory for its image.
+struct Lent {
+    state: State,
+    seqs: Vec<u64>,
+    secs: Vec<i64>,
+    bytes: Vec<u8>,
+}
+
+/// Pairs of which no code is one bit, and their image.
+fn full() -> Lent {
+    let state = State { count: PAIRS, capacity: PAIRS as u32, has_last: 1, interval_secs: 0, last: PAIRS as i64 };
+    let seqs: Vec<u64> = (0..PAIRS).map(|i| (i * i % 5 + 10 * i) as u64).collect();
+    let secs: Vec<i64> = (0..PAIRS).map(|i| (i - i % 3) as i64).collect();
+    let mut bytes = vec![0; ROOM];
+    let saved = unsafe { sys::skut_save_strict(state, seqs.as_ptr(), PAIRS, secs.as_ptr(), PAIRS, bytes.as_mut_ptr(), ROOM) };
+    assert_eq!(saved.number, 0);
+    Lent { state, seqs, secs, bytes }
+}
+
+/// An argument: a number or a pointer, which goes by a register while there is one, or a state, which goes by the stack.
+enum Arg {
+    Word(u64),
+    Table(State),
+}
+use Arg::{Table, Word};
+
+type Call = (&'static str, *const (), Vec<Arg>);
+
+/// Each call where it does all of its work.
+fn calls(l: &mut Lent) -> Vec<Call> {
+    let (n, room, state) = (PAIRS as u64, ROOM as u64, l.state);
+    let (s, z, b) = (l.seqs.as_mut_ptr() as u64, l.secs.as_mut_ptr() as u64, l.bytes.as_mut_ptr() as u64);
+    let (one_seq, one_sec) = (&90_000u64 as *const u64 as u64, &9000i64 as *const i64 as u64);
+    let words = |words: &[u64]| words.iter().map(|&word| Word(word)).collect::<Vec<_>>();
+    let arrays = |more: &[u64]| words(&[&[s, n, z, n], more].concat());
+    let table = |more: &[u64]| std::iter::once(Table(state)).chain(arrays(more)).collect::<Vec<_>>();
+    let other = State { count: 1, capacity: 1, has_last: 1, interval_secs: 0, last: 9000 };
+    let extended = table(&[]).into_iter().chain([Table(other)]).chain(words(&[one_seq, 1, one_sec, 1])).collect();
+    vec![
+        ("skut_new", sys::skut_new as *const (), words(&[])),
+        ("skut_with_config", sys::skut_with_config as *const (), words(&[4, 0])),
+        ("skut_check", sys::skut_check as *const (), table(&[])),
+        ("skut_offer", sys::skut_offer as *const (), table(&[90_000, 9000])),
+        ("skut_offer_pairs", sys::skut_offer_pairs as *const (), table(&[one_seq, 1, one_sec, 1])),
+        ("skut_extend_from", sys::skut_extend_from as *const (), extended),
+        ("skut_find_ts", sys::skut_find_ts as *const (), table(&[3, 0])),
+        ("skut_find_seq", sys::skut_find_seq as *const (), table(&[3, 0])),
+        ("skut_save", sys::skut_save as *const (), table(&[b, room])),
+        ("skut_save_strict", sys::skut_save_strict as *const (), table(&[b, room])),
+        ("skut_restore", sys::skut_restore as *const (), words(&[b, room, s, n, z, n])),
+        ("skut_encoded_len", sys::skut_encoded_len as *const (), arrays(&[])),
+        ("skut_encode", sys::skut_encode as *const (), arrays(&[b, room])),
+        ("skut_encode_strict", sys::skut_encode_strict as *const (), arrays(&[b, room])),
+        ("skut_decode", sys::skut_decode as *const (), words(&[b, room, s, n, z, n])),
+        ("skut_image_len", sys::skut_image_len as *const (), words(&[b, room])),
+        ("skut_sign_extend", sys::skut_sign_extend as *const (), words(&[64, 7])),
+        ("skut_read_bits", sys::skut_read_bits as *const (), words(&[b, room, 3, 3, 64])),
+        ("skut_write_bits", sys::skut_write_bits as *const (), words(&[b, room, 3, 3, 7, 64])),
+    ]
+}
+
+/// What goes by the five registers that the place of the answer leaves, and what goes by the stack.
+fn laid_out(args: &[Arg]) -> ([u64; 5], Vec<u64>) {
+    let (mut registers, mut used, mut pushed) = ([0; 5], 0, Vec::new());
+    for arg in args {
+        match *arg {
+            Word(word) if used < registers.len() => {
+                registers[used] = word;
+                used += 1;
+            }
+            Word(word) => pushed.push(word),
+            Table(s) => pushed.extend([s.count as u64, u64::from(s.capacity) | u64::from(s.has_last) << 32, s.interval_secs, s.last as u64]),
+        }
+    }
+    (registers, pushed)
+}
+
+/// The bytes of stack that a call writes to.
+fn stack_of(&(name, function, ref args): &Call) -> usize {
+    const STACK: usize = 256 * 1024;
+    let (registers, pushed) = laid_out(args);
+    let mut painted = vec![0xA5A5_A5A5_A5A5_A5A5u64; STACK / 8];
+    // The convention wants the arguments at a multiple of 16.
+    let skipped = (painted.as_ptr() as usize / 8 + painted.len() - pushed.len()) % 2;
+    let at = painted.len() - pushed.len() - skipped;
+    painted[at..at + pushed.len()].copy_from_slice(&pushed);
+    let mut answer = [u64::MAX; 10];
+    unsafe {
+        std::arch::asm!(
+            "mov r12, rsp",
+            "mov rsp, {at}",
+            "call {function}",
+            "mov rsp, r12",
+            at = in(reg) painted.as_mut_ptr().add(at),
+            function = in(reg) function,
+            in("rdi") answer.as_mut_ptr(),
+            in("rsi") registers[0],
+            in("rdx") registers[1],
+            in("rcx") registers[2],
+            in("r8") registers[3],
+            in("r9") registers[4],
+            out("r12") _,
+            clobber_abi("C"),
+        );
+    }
+    // A refused call may have done less than the others.
+    assert_eq!(answer[0] as u32, 0, "{name} is refused");
+    let untouched = painted.iter().flat_map(|word| word.to_le_bytes()).take_while(|&byte| byte == 0xA5).count();
+    8 * (at + pushed.len()) - untouched
+}
+
+/// The bytes of stack that the header says a call needs.
+fn declared(name: &str) -> usize {
+    let before = HEADER.split(&format!(" {name}(")).next().expect("split gives a part");
+    let said = before.rsplit("Stack: ").next().expect("split gives a part");
+    said.split(' ').next().and_then(|bytes| bytes.replace(',', "").parse().ok()).expect("the header says how much stack a call needs")
+}
+
+fn stack() {
+    let number = calls(&mut full()).len();
+    for index in 0..number {
+        let mut lent = full();
+        let call = &calls(&mut lent)[index];
+        let (used, most) = (stack_of(call), declared(call.0));
+        println!("   {}: {used} of {most} bytes of stack", call.0);
+        assert!(used <= most && most <= 256 * 1024);
+    }
+    assert_eq!(HEADER.matches("Stack: ").count(), number);
+}
