@@ -1,4 +1,5 @@
-// Answers of the reader as FORMAT.md writes them: document 01's number and, 256 times, the byte that it also tells.
+// Answers of the reader as FORMAT.md writes them: the number of docs/RULES.md and, 256 times, the byte
+// that it also tells.
 use crate::body::wide;
 use crate::digest;
 use crate::lists::values_so;

@@ -59,36 +59,59 @@ pub fn note(tally: &mut [u64; PLACES], question: usize, agreed: bool) {
     }
 }
 
-fn print_line(name: &[u8], tally: &[u64; PLACES], question: usize) {
+// This and what follows answer whether all was written.
+pub fn print_word(word: &[u8]) -> bool {
+    io::write_all(libc::STDOUT_FILENO, word)
+}
+
+pub fn print_number(n: u64) -> bool {
+    io::print_decimal(libc::STDOUT_FILENO, n)
+}
+
+fn print_line(name: &[u8], tally: &[u64; PLACES], question: usize) -> bool {
     if question >= KINDS {
-        return;
+        return false;
     }
-    io::write_all(libc::STDOUT_FILENO, name);
-    io::write_all(libc::STDOUT_FILENO, b" agreed ");
-    io::print_decimal(libc::STDOUT_FILENO, tally[question]);
-    io::write_all(libc::STDOUT_FILENO, b" differed ");
-    io::print_decimal(libc::STDOUT_FILENO, tally[question + KINDS]);
-    io::write_all(libc::STDOUT_FILENO, b"\n");
+    print_word(name)
+        & print_word(b" agreed ")
+        & print_number(tally[question])
+        & print_word(b" differed ")
+        & print_number(tally[question + KINDS])
+        & print_word(b"\n")
 }
 
-fn print_codec(tally: &[u64; PLACES]) {
-    print_line(b"writes", tally, WRITES);
-    print_line(b"reads", tally, READS);
-    print_line(b"extensions", tally, EXTENSIONS);
-    print_line(b"encodings", tally, ENCODINGS);
-    print_line(b"readbacks", tally, READBACKS);
-    print_line(b"decodings", tally, DECODINGS);
-    print_line(b"lengths", tally, LENGTHS);
+// The line that says that some answers differ, if some do.
+fn print_failed(tally: &[u64; PLACES]) -> bool {
+    let differed = tally[ANSWERS + KINDS];
+    if differed == 0 {
+        return true;
+    }
+    print_word(b"failed: ")
+        & print_number(differed)
+        & print_word(b" of ")
+        & print_number(wrapping_add_u64(tally[ANSWERS], differed))
+        & print_word(b" answers differ\n")
 }
 
-pub fn print(tally: &[u64; PLACES]) {
-    print_codec(tally);
-    print_line(b"offers", tally, OFFERS);
-    print_line(b"tables", tally, TABLES);
-    print_line(b"lookups", tally, LOOKUPS);
-    print_line(b"saves", tally, SAVES);
-    print_line(b"runs", tally, RUNS);
-    print_line(b"extends", tally, EXTENDS);
-    print_line(b"restores", tally, RESTORES);
-    print_line(b"answers", tally, ANSWERS);
+fn print_codec(tally: &[u64; PLACES]) -> bool {
+    print_line(b"writes", tally, WRITES)
+        & print_line(b"reads", tally, READS)
+        & print_line(b"extensions", tally, EXTENSIONS)
+        & print_line(b"encodings", tally, ENCODINGS)
+        & print_line(b"readbacks", tally, READBACKS)
+        & print_line(b"decodings", tally, DECODINGS)
+        & print_line(b"lengths", tally, LENGTHS)
+}
+
+pub fn print(tally: &[u64; PLACES]) -> bool {
+    print_failed(tally)
+        & print_codec(tally)
+        & print_line(b"offers", tally, OFFERS)
+        & print_line(b"tables", tally, TABLES)
+        & print_line(b"lookups", tally, LOOKUPS)
+        & print_line(b"saves", tally, SAVES)
+        & print_line(b"runs", tally, RUNS)
+        & print_line(b"extends", tally, EXTENDS)
+        & print_line(b"restores", tally, RESTORES)
+        & print_line(b"answers", tally, ANSWERS)
 }

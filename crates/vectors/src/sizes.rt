@@ -6,6 +6,9 @@ use vector_bodies::body::u32_at;
 use vector_bodies::lists::LISTED;
 use vector_bodies::lists::MOST;
 
+// The most bytes of a body.
+const LONGEST: usize = 4096;
+
 fn are_reads(b: &[u8]) -> bool {
     let size = u8_at(b, 0);
     b.len() == 2 + size + 10 * u8_at(b, 1 + size)
@@ -50,7 +53,7 @@ fn is_whole_codec(kind: u8, b: &[u8]) -> bool {
 }
 
 // Whether a record's kind is known and its body has the bytes that its own counts say.
-pub fn is_whole(kind: u8, b: &[u8]) -> bool {
+fn is_counted(kind: u8, b: &[u8]) -> bool {
     match kind {
         b'S' => is_listed(b, u16_at(b, 0), 11),
         b'H' => b.len() == 27,
@@ -62,4 +65,9 @@ pub fn is_whole(kind: u8, b: &[u8]) -> bool {
         b'R' => b.len() >= 14,
         _ => is_whole_codec(kind, b),
     }
+}
+
+// Whether a record is as FORMAT.md has it.
+pub fn is_whole(kind: u8, b: &[u8]) -> bool {
+    (b.len() <= LONGEST) & is_counted(kind, b)
 }
