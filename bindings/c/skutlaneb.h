@@ -3,7 +3,7 @@
  *
  * No argument makes a call misread, as long as each pointer and its length name memory of the caller's own that stays allocated and that nothing
  * else changes during the call, an array of uint64_t or int64_t is aligned for its type (to 8 bytes), and what a call writes to overlaps nothing else of
- * the same call: what numbers do not make is then refused by a number of the list below. A length counts values, not bytes. Where it is 0, its pointer
+ * the same call: numbers that make no table, width or length are then refused by a number of the list below; only `round` takes any number. A length counts values, not bytes. Where it is 0, its pointer
  * is not used and may be NULL.
  *
  * Why an output may not overlap an input: the proofs take the arrays of a call to be apart. A call looks over its input first and reads it again
@@ -33,7 +33,7 @@ struct skut_answer {
 
 /* A table's state. Its pairs stand in two arrays of the caller's, each of as many places as the capacity says and at least one; `count` places
  * are in use. `has_last` of 0 says that no second was recorded yet, 1 that `last` is the last recorded one; a state with any other number there is
- * refused by 14. A caller passes a state on as a call returned it, with the same arrays, and changes nothing in either. */
+ * refused by 14 (by skut_offer_pairs after 18). A caller passes a state on as a call returned it, with the same arrays, and changes nothing in either. */
 struct skut_state {
     size_t count;
     uint32_t capacity;
@@ -42,7 +42,7 @@ struct skut_state {
     int64_t last;
 };
 
-/* What a call answers that returns a state. Where it returns none, `state` is one that every call refuses by 14. */
+/* What a call answers that returns a state. Where it returns none, `state` is one that every call refuses by 14, skut_offer_pairs after 18. */
 struct skut_table_answer {
     struct skut_answer answer;
     uint64_t recorded, skipped;
@@ -74,7 +74,7 @@ enum {
     SKUT_TOO_MANY_VALUES = 19,  /* each array to encode has more than 65,536 values */
     SKUT_WIDE = 20,             /* strict: a difference of deltas is outside -2^31..2^31-1: array, index */
     SKUT_ROOM = 21,             /* the output is too short: the bytes needed */
-    SKUT_INPUT_TOO_LONG = 22,   /* a program's input is above 16,384 bytes; no call here answers it */
+    SKUT_INPUT_TOO_LONG = 22,   /* the input of the program listing is above 16,384 bytes; no call here answers it */
     SKUT_WIDTH = 23,            /* a bit width is above 64, or outside 1..32 in sign extension */
     SKUT_BITS_SHORT = 24        /* fewer bits are left than asked for */
 };
@@ -132,7 +132,8 @@ struct skut_answer skut_save(struct skut_state state, const uint64_t *seqs, size
 struct skut_answer skut_save_strict(struct skut_state state, const uint64_t *seqs, size_t seqs_len, const int64_t *secs, size_t secs_len, uint8_t *out, size_t out_len);
 
 /* The table of an image, of capacity 8,192 and interval 60, its pairs in arrays of at least 8,192 places, its last recorded second that of the last
- * pair: 14, 1 to 10, 11 to 13. Bytes after the image are ignored. skut_save_strict says when this is the table that was saved. Stack: 133,120 bytes. */
+ * pair: 14, 1 to 10, 11 to 13. Bytes after the image are ignored. skut_save_strict says when this is the table that was saved. Stack: 133,120 bytes; and, at its
+ * first call in a program that is linked without -z now, what the dynamic linker takes to find memset and memcpy: 134,808 bytes in all were measured. */
 struct skut_table_answer skut_restore(const uint8_t *bytes, size_t bytes_len, uint64_t *seqs, size_t seqs_len, int64_t *secs, size_t secs_len);
 
 /* ---- Images of two arrays, with no table */
@@ -152,7 +153,7 @@ struct skut_answer skut_decode(const uint8_t *bytes, size_t bytes_len, uint64_t 
 /* The length of the image at the start of the bytes, in a: 1 to 9. Stack: 768 bytes. */
 struct skut_answer skut_image_len(const uint8_t *bytes, size_t bytes_len);
 
-/* ---- Bits, the most significant first. A place is a byte and a bit of it; one past the end counts as the end. */
+/* ---- Bits, the most significant first. A place is a byte and a bit of it; one past the end, or with a bit above 7, counts as the end. */
 
 /* The low `bits` bits of a value as a signed number, by its 64 bits in a: 23. Stack: 256 bytes. */
 struct skut_answer skut_sign_extend(uint32_t val, uint8_t bits);
@@ -160,7 +161,8 @@ struct skut_answer skut_sign_extend(uint32_t val, uint8_t bits);
 /* Reads 0 to 64 bits: the value in a, the place after them in b and c: 23, 24. Stack: 256 bytes. */
 struct skut_answer skut_read_bits(const uint8_t *s, size_t s_len, size_t byte, uint8_t bit, uint8_t width);
 
-/* Writes the low 0 to 64 bits of a value: the place after them in a and b: 23, 21. Stack: 256 bytes. */
+/* Writes the low 0 to 64 bits of a value: the place after them in a and b: 23, 21. The bits before the place stay, what is left of the last byte written
+ * becomes 0; a write of no bits changes nothing. Stack: 256 bytes. */
 struct skut_answer skut_write_bits(uint8_t *buf, size_t buf_len, size_t byte, uint8_t bit, uint64_t value, uint8_t width);
 
 #ifdef __cplusplus

@@ -1,4 +1,4 @@
-/* What the header says of saves, restores and lookups: when a table comes back as it was, the smallest ones that do not, and which key answers. */
+/* What the header says of saves, restores and lookups: when a table comes back as it was, small ones that do not, and which key answers. */
 #include "cases.h"
 
 #include <string.h>

@@ -15,7 +15,7 @@ pub fn read_bits(bytes: &[u8], at: Place, width: u8) -> Result<(u64, Place), Err
     Ok((read.a, Place { byte: read.b as usize, bit: read.c as u8 }))
 }
 
-/// Writes the low 0 to 64 bits of a value, and answers the place after them. What is left of the last byte becomes 0. Refused where the width is above 64 (23),
+/// Writes the low 0 to 64 bits of a value, and answers the place after them. What is left of the last byte written becomes 0; a write of no bits changes nothing. Refused where the width is above 64 (23),
 /// then where the buffer is too short (21, with the bytes needed); the buffer is then as it was.
 pub fn write_bits(buf: &mut [u8], at: Place, value: u64, width: u8) -> Result<Place, Error> {
     let written = done(calls::write_bits(buf, at.byte, at.bit, value, width))?;

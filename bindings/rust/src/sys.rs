@@ -1,8 +1,8 @@
 //! The static library's functions as they are, for who keeps a table's arrays and state.
 //! `bindings/c/skutlaneb.h` says of each what it gives and which numbers refuse it.
 //!
-//! A slice crosses as a pointer and a length. No number makes a call misread, if every pointer and its length name memory of the caller's own, aligned as its
-//! type asks, and what is written to overlaps nothing else of the same call; a length of 0 needs no memory.
+//! A slice crosses as a pointer and a length. No number makes a call misread, if every pointer and its length name memory of the caller's own that nothing else frees or
+//! changes during the call, aligned as its type asks, and what is written to overlaps nothing else of the same call; a length of 0 needs no memory.
 
 /// Number 0 and the values that a call gives, or the number of its refusal and what that also tells.
 #[repr(C)]

@@ -1,4 +1,4 @@
--- The proofs of the statements in specs/: `demand` in Run, `cases` in Cases.
+-- The proofs of the statements in specs/: `demand` in Run, `lists-are-offers` in Lists, `cases` in Cases.
 mod Kept
 mod Sound
 mod Small
@@ -7,5 +7,6 @@ mod Reload
 mod Exact
 mod Logged
 pub mod Run
+pub mod Lists
 mod Example
 pub mod Cases

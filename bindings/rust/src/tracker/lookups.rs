@@ -26,7 +26,7 @@ impl SequenceTracker {
     ///
     /// # What a lookup costs
     ///
-    /// Each one checks the whole table first, some 8 instructions for each kept pair. In 8,192 pairs it takes some 200 times the instructions of slatedb's, in
+    /// Each one checks the whole table first, some 8 instructions for each kept pair. In 8,192 pairs it takes some 225 times the instructions of slatedb's, in
     /// 512 some 17 times, in one pair not more than slatedb's (docs/SPEED.md). What to do about it:
     ///
     /// - Look up rarely: keep an answer that is asked for again, until the next offer.

@@ -7,7 +7,8 @@ use crate::{Error, ListError, Tally, TrackedSeq};
 /// What came of an offered pair.
 #[derive(Clone, Copy, Debug, PartialEq, Eq, Hash)]
 pub enum Inserted {
-    /// The table has it, and has dropped every second pair if there were too many.
+    /// It was recorded, and its second is the last recorded one. If there were too many pairs, every second one was dropped: at an odd capacity, and at 0,
+    /// this one too.
     Recorded,
     /// Less than the interval has passed since the last recorded second. The table is as it was.
     Skipped,

@@ -35,6 +35,8 @@ fn other_settings() {
     let back = SequenceTracker::from_bytes(&saved.to_bytes_strict().unwrap()).unwrap();
     assert_eq!((kept(&back), back.last_recorded()), (vec![(1, 10), (3, 30)], Some(Second(30))));
     assert_eq!((back.capacity(), back.interval_secs()), (8192, 60));
+    let back = SequenceTracker::from_bytes(&table(8192, 61, &[]).to_bytes_strict().unwrap()).unwrap();
+    assert_eq!(back.interval_secs(), 60);
 }
 
 fn not_strict() {
@@ -42,6 +44,10 @@ fn not_strict() {
     let back = SequenceTracker::from_bytes(&saved.to_bytes().unwrap()).unwrap();
     assert_eq!(kept(&back), [(0, 0), (0, 60)]);
     assert_eq!(saved.to_bytes_strict().map_err(|refused| refused.number()), Err(20));
+    let least = table(8192, 60, &[(0, 0), (1 << 31, 60)]);
+    let back = SequenceTracker::from_bytes(&least.to_bytes().unwrap()).unwrap();
+    assert_eq!(kept(&back), [(0, 0), (u64::MAX - (1 << 31) + 1, 60)]);
+    assert!(table(8192, 60, &[(0, 0), ((1 << 31) - 1, 60)]).to_bytes_strict().is_ok());
 }
 
 fn no_calls_state() {

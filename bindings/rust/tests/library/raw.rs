@@ -7,7 +7,7 @@ use std::ptr::{null, null_mut};
 pub const CASES: &[Case] = &[
     ("the structs are laid out as in C", layout),
     ("a length of 0 needs no memory", no_memory),
-    ("a state that no call returned is refused by 14", forged),
+    ("a state that does not fit its arrays is refused by 14", forged),
     ("a mark that is neither 0 nor 1 is refused by 14, by every call", neither),
     ("lists of different length are refused by 18, before the table", uneven),
 ];
