@@ -51,7 +51,7 @@ pub fn writes(b: &[u8], tally: &mut [u64; tally::PLACES]) {
     let mut buf = [255u8; 4096];
     let end = begun(write_each(b, n, &mut buf));
     let want = part(b, 1 + 9 * n, b.len());
-    // the buffer was dirty, and no byte past the written ones may have changed
+    // the buffer was dirty, and the byte after the written ones may not have changed
     let kept = u8_at(&buf, end) == 255;
     tally::note(
         tally,
