@@ -11,8 +11,8 @@ pub struct Tally {
 
 /// Why a list of offers did not go to its end. Its sentence says where it stopped; [`ListError::why`] and `source` say why.
 ///
-/// A `ListError` becomes an [`Error`], by `?` too, which drops the place. There is no way back: an `Error` says neither at which pair nor of which table it is,
-/// and a place made up here would be a false one.
+/// A `ListError` becomes an [`Error`], by `?` too, which drops the place. An `Error` becomes a `ListError`, so that a function which restores a table and then offers
+/// a list to it has one error type; it says neither at which pair nor of which table it is, so it becomes [`ListError::Apart`], and no place is made up.
 #[derive(Clone, Copy, Debug, PartialEq, Eq, Hash)]
 pub enum ListError {
     /// The pair at this position, counted from 0, is refused. Those before it were offered, and the table keeps what came of them.
@@ -21,6 +21,8 @@ pub enum ListError {
     Own(Error),
     /// The table whose pairs were to be offered is bad, and nothing was offered.
     Other(Error),
+    /// A call apart from the list was refused. No list answers this: it is what an [`Error`] becomes.
+    Apart(Error),
 }
 
 impl ListError {
@@ -36,7 +38,7 @@ impl ListError {
 
     fn inner(&self) -> &Error {
         match self {
-            ListError::Stopped { why, .. } | ListError::Own(why) | ListError::Other(why) => why,
+            ListError::Stopped { why, .. } | ListError::Own(why) | ListError::Other(why) | ListError::Apart(why) => why,
         }
     }
 }
@@ -47,12 +49,19 @@ impl From<ListError> for Error {
     }
 }
 
+impl From<Error> for ListError {
+    fn from(error: Error) -> ListError {
+        ListError::Apart(error)
+    }
+}
+
 impl fmt::Display for ListError {
     fn fmt(&self, f: &mut fmt::Formatter<'_>) -> fmt::Result {
         match self {
             ListError::Stopped { at, .. } => write!(f, "pair {at} is refused, and what came of those before it is kept"),
             ListError::Own(_) => f.write_str("nothing was offered, as the table is bad"),
             ListError::Other(_) => f.write_str("nothing was offered, as the other table is bad"),
+            ListError::Apart(_) => f.write_str("a call apart from the list was refused"),
         }
     }
 }

@@ -12,6 +12,7 @@ pub const CASES: &[Case] = &[
     ("a list's refusal says what is kept", sentences),
     ("a list's refusal has its number and its source", why),
     ("a list's refusal becomes an error by ?", as_error),
+    ("an error becomes a list's refusal by ?, with no place", apart),
 ];
 
 fn as_one_by_one() {
@@ -84,6 +85,20 @@ fn as_error() {
     }
     assert_eq!(offered(&[pair(5, 0), pair(6, 1)]), Ok(Tally { recorded: 2, skipped: 0 }));
     assert_eq!(offered(&[pair(5, 0), pair(4, 2)]), Err(Error::OfferedDrops));
+}
+
+/// In a function that answers a `ListError`, `?` takes the refusal of another call too.
+fn apart() {
+    fn restored(bytes: &[u8], pairs: &[TrackedSeq]) -> Result<Tally, ListError> {
+        SequenceTracker::from_bytes(bytes)?.insert_all(pairs)
+    }
+    let bytes = table(8192, 60, &[(5, 0)]).to_bytes_strict().unwrap();
+    assert_eq!(restored(&bytes, &[pair(6, 60)]), Ok(Tally { recorded: 1, skipped: 0 }));
+    let cut = restored(&bytes[..4], &[]).unwrap_err();
+    assert_eq!((cut, cut.number()), (ListError::Apart(Error::HeaderCut), 3));
+    assert_eq!(cut.source().and_then(|source| source.downcast_ref()), Some(&Error::HeaderCut));
+    assert_eq!(cut.to_string(), "a call apart from the list was refused");
+    assert!(matches!(restored(&bytes, &[pair(4, 60)]), Err(ListError::Stopped { at: 0, .. })));
 }
 
 fn stopped_at_1() -> ListError {
