@@ -1,19 +1,18 @@
 -- The laws over the width: the low w bits of a number, and w bits read as a signed number. Assumes nothing.
-use mathlib.Core.Path.{_≡_, refl, sym, ap, ap₂, _∙_}
+use mathlib.Core.Path.{_≡_, sym, ap, _∙_}
 use mathlib.Core.Bool.{Bool, true, false}
 use mathlib.Core.List.{[], _∷_}
-use Prim.Native.Nat.{ℕ, suc, _+_, _-_, _*_, _/_, _^_, _%_, _≤_, _<_}
-use native.Mathlib.Nat.{add-zero, add-mul, suc-mul, mod-eq-of-lt, mod-mod, mod-lt, one-mul, pow-suc, mul-comm, two-mul, mul-div-cancel, mul-mod-left, mul-lt-mul-of-pos-right, mul-le-mul-right}
+use Prim.Native.Nat.{ℕ, zero, suc, _+_, _-_, _*_, _^_, _%_, _≤_, _<_}
+use native.Mathlib.Nat.{mod-eq-of-lt, mod-mod, mod-lt, one-mul, pow-suc, mul-comm, two-mul}
 use native.Mathlib.Omega.{arith}
-use borrow.Author.Tests.{lt-ltb, le-ltb, le-leb, lt-leb, ltb-true, ltb-false}
-use lib.Arith.{digits-div}
+use borrow.Author.Tests.{lt-ltb, le-ltb, le-leb, lt-leb}
 use lib.Dec.{ltb}
-use lib.Pow.{pow-pos, pow-lt, pow-mono, pow-add, mod-pow-add, not-mod}
-use lib.IntN.{ℤ, pos, negsuc}
-use lib.Signed.{mag, shrZ}
+use lib.Pow.{pow-pos, pow-lt, pow-mono, not-mod}
+use lib.IntN.{ℤ, pos, negsuc, _-ℤ_}
+use lib.Signed.{mag}
 use mir.Syntax.{w64}
 use mir.Val.{SFits, sel}
-use Rattle.signed.specs.Signed.{signedOf, signed}
+use Rattle.signed.specs.Signed.{signedOf}
 use Rattle.signed.specs.Inner.{lowBits}
 use Rattle.told.specs.Told.{gave, refused}
 use Rattle.signed.specs.Extend.{extend, extendRule}
@@ -55,62 +54,31 @@ extend-low w (negsuc n) h l f =
     let k : 2 ^ w - suc (2 ^ w - suc n) ≡ n = omega arith in
     rw (mod-mod, e) (read-high w (2 ^ w - suc n) (omega arith) ∙ ap negsuc k)
 
--- ---- up against the sign bit, and back
-module _ (w m : ℕ) (h : 1 ≤ w) (l : w ≤ 32) (k : m < 2 ^ w) where
-  whole : 2 ^ 64 ≡ 2 ^ w * 2 ^ (64 - w)
-  whole = let e : 64 ≡ w + (64 - w) = omega arith in ap (λ (n : ℕ). 2 ^ n) e ∙ pow-add 2 w (64 - w)
+-- ---- the low bits as they stand, less two to the width where the top one is set
+pub top-clear : (v w : ℕ) → v % 2 ^ w < 2 ^ (w - 1) → pos (v % 2 ^ w) ≡ extend w v
+top-clear v w h = sym (read-low w (v % 2 ^ w) h)
 
-  half : 2 ^ 63 ≡ 2 ^ (w - 1) * 2 ^ (64 - w)
-  half = let e : 63 ≡ (w - 1) + (64 - w) = omega arith in ap (λ (n : ℕ). 2 ^ n) e ∙ pow-add 2 (w - 1) (64 - w)
+-- a number less a greater one
+minus : (m n : ℕ) → m < n → pos m -ℤ pos n ≡ negsuc (n - suc m)
+minus m zero h = absurd (omega arith)
+minus m (suc n) h = simp (lt-ltb m (suc n) h)
 
-  -- the whole less one more than m times the step is 2^w - 1 - m times the step, and the step less one
-  split : (K : ℕ) → 0 < K → 2 ^ w * K - suc (m * K) ≡ (2 ^ w - suc m) * K + (K - 1)
-  split K p =
-      let e : (2 ^ w - suc m) + suc m ≡ 2 ^ w = omega arith in
-      let f : (2 ^ w - suc m) * K + suc m * K ≡ 2 ^ w * K = sym (add-mul (2 ^ w - suc m) (suc m) K) ∙ ap (λ (n : ℕ). n * K) e in
-      omega (arith, suc-mul m K)
+pub top-set : (v w : ℕ) → 2 ^ (w - 1) ≤ v % 2 ^ w → pos (v % 2 ^ w) -ℤ pos (2 ^ w) ≡ extend w v
+top-set v w h = minus (v % 2 ^ w) (2 ^ w) (mod-lt v (pow-pos w)) ∙ sym (read-high w (v % 2 ^ w) h)
 
-  back-low : m < 2 ^ (w - 1) → shrZ (signed (m * 2 ^ (64 - w))) (2 ^ (64 - w)) ≡ pos m
-  back-low b =
-      let p : m * 2 ^ (64 - w) < 2 ^ 63 = rw half (mul-lt-mul-of-pos-right b (pow-pos (64 - w))) in
-      simp (lt-ltb (m * 2 ^ (64 - w)) (2 ^ 63) p) (ap pos (mul-div-cancel m (pow-pos (64 - w))))
+-- all three are numbers of an i64
+pub size-fits : (w : ℕ) → w ≤ 32 → SFits w64 (pos (2 ^ w))
+size-fits w l = record { sfits = omega (arith, pow-mono {j = 32} l) }
 
-  back-high : 2 ^ (w - 1) ≤ m → shrZ (signed (m * 2 ^ (64 - w))) (2 ^ (64 - w)) ≡ negsuc (2 ^ w - suc m)
-  back-high b =
-      let p : 2 ^ 63 ≤ m * 2 ^ (64 - w) = rw half (mul-le-mul-right (2 ^ (64 - w)) b) in
-      let e : 2 ^ 64 - suc (m * 2 ^ (64 - w)) ≡ (2 ^ w - suc m) * 2 ^ (64 - w) + (2 ^ (64 - w) - 1) =
-      ap (λ (n : ℕ). n - suc (m * 2 ^ (64 - w))) whole ∙ split (2 ^ (64 - w)) (pow-pos (64 - w)) in
-      let q : 2 ^ (64 - w) - 1 < 2 ^ (64 - w) = omega (arith, pow-pos (64 - w)) in
-      simp (le-ltb (m * 2 ^ (64 - w)) (2 ^ 63) p) (ap negsuc (ap (λ (n : ℕ). n / 2 ^ (64 - w)) e ∙ digits-div (2 ^ w - suc m) q))
+pub low-fits : (v w : ℕ) → w ≤ 32 → SFits w64 (pos (v % 2 ^ w))
+low-fits v w l = record { sfits = omega (arith, mod-lt v (pow-pos w), pow-mono {j = 32} l) }
 
-  back : shrZ (signed (m * 2 ^ (64 - w))) (2 ^ (64 - w)) ≡ signedOf w m
-  back = go (ltb m (2 ^ (w - 1))) refl
-    where
-      go : (t : Bool) → ltb m (2 ^ (w - 1)) ≡ t → shrZ (signed (m * 2 ^ (64 - w))) (2 ^ (64 - w)) ≡ sel t (pos m) (negsuc (2 ^ w - suc m))
-      go true e = back-low (ltb-true m (2 ^ (w - 1)) e)
-      go false e = back-high (ltb-false m (2 ^ (w - 1)) e)
-
-  signedOf-fits : SFits w64 (signedOf w m)
-  signedOf-fits = go (ltb m (2 ^ (w - 1)))
-    where
-      go : (t : Bool) → SFits w64 (sel t (pos m) (negsuc (2 ^ w - suc m)))
-      go true = record { sfits = omega (arith, pow-mono {j = 32} l) }
-      go false = record { sfits = omega (arith, pow-mono {j = 32} l) }
-
--- the bits above the width leave the word
-up : (v w : ℕ) → 1 ≤ w → w ≤ 32 → v * 2 ^ (64 - w) % 2 ^ 64 ≡ v % 2 ^ w * 2 ^ (64 - w)
-up v w h l =
-    let e : 64 ≡ w + (64 - w) = omega arith in
-    let n : ℕ = v * 2 ^ (64 - w) in
-    ap (λ (k : ℕ). n % 2 ^ k) e ∙ mod-pow-add n w (64 - w)
-    ∙ ap₂ (λ (a b : ℕ). a % 2 ^ w * 2 ^ (64 - w) + b) (mul-div-cancel v (pow-pos (64 - w))) (mul-mod-left v (2 ^ (64 - w)))
-    ∙ add-zero (v % 2 ^ w * 2 ^ (64 - w))
-
-pub up-and-back : (v w : ℕ) → 1 ≤ w → w ≤ 32 → shrZ (signed (v * 2 ^ (64 - w) % 2 ^ 64)) (2 ^ (64 - w)) ≡ extend w v
-up-and-back v w h l = ap (λ (n : ℕ). shrZ (signed n) (2 ^ (64 - w))) (up v w h l) ∙ back w (v % 2 ^ w) h l (mod-lt v (pow-pos w))
-
-pub extend-fits : (v w : ℕ) → 1 ≤ w → w ≤ 32 → SFits w64 (extend w v)
-extend-fits v w h l = signedOf-fits w (v % 2 ^ w) h l (mod-lt v (pow-pos w))
+pub extend-fits : (v w : ℕ) → w ≤ 32 → SFits w64 (extend w v)
+extend-fits v w l = go (ltb (v % 2 ^ w) (2 ^ (w - 1)))
+  where
+    go : (t : Bool) → SFits w64 (sel t (pos (v % 2 ^ w)) (negsuc (2 ^ w - suc (v % 2 ^ w))))
+    go true = low-fits v w l
+    go false = record { sfits = omega (arith, pow-mono {j = 32} l) }
 
 -- ---- the refusal
 pub taken : (v w : ℕ) → 1 ≤ w → w ≤ 32 → extendRule v w ≡ gave (extend w v)

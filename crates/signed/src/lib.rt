@@ -4,7 +4,10 @@ ghost use mathlib.Core.Path.{_≡_};
 ghost use Rattle.signed.specs.Signed.{signed, pattern, subS, addS};
 ghost use Rattle.signed.specs.Extend.{toldExtend, extendRule};
 
-pub mod inner; // inner.rt: the low bits of a signed number, for our own crates
+pub mod inner; // inner.rt: powers of two and low bits, for our own crates
+
+use crate::inner::low_of;
+use crate::inner::two_to;
 
 // What a sign extension answers.
 pub enum Extended {
@@ -45,14 +48,20 @@ pub fn wrapping_add(a: i64, b: i64) -> i64
     as_signed(std::num::wrapping_add_u64(as_unsigned(a), as_unsigned(b)))
 }
 
-// The low `bits` bits of `val` as a signed number: up against the sign bit, and back.
+// The low `bits` bits of `val` as they stand, less two to the width where the top one of them is set.
 pub fn sign_extend(val: u32, bits: u8) -> Extended
     ensures { λ r. ⌜ toldExtend r ≡ extendRule val bits ⌝ }
 {
     match bits {
         1..=32 => {
-            let shift = 64 - bits as u64;
-            Extended::Value(as_signed((val as u64) << shift) >> shift)
+            let low = low_of(val as u64, bits);
+            let top = two_to(bits - 1);
+            let size = two_to(bits);
+            if low < top {
+                Extended::Value(low as i64)
+            } else {
+                Extended::Value(low as i64 - size as i64)
+            }
         }
         _ => Extended::Width,
     }
