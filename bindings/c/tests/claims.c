@@ -96,6 +96,17 @@ static void lookups(void)
     answers("skut_find_seq", "any other number rounds down", skut_find_seq(table, ARRAYS, 29, UINT32_MAX), SKUT_DONE, 1, 7, 0);
 }
 
+static void extensions(void)
+{
+    answers("skut_sign_extend", "63 in 7 bits", skut_sign_extend(63, 7), SKUT_DONE, 63, 0, 0);
+    answers("skut_sign_extend", "63 in 7 bits, ones above them", skut_sign_extend(UINT32_MAX - 64, 7), SKUT_DONE, 63, 0, 0);
+    answers("skut_sign_extend", "64 in 7 bits", skut_sign_extend(64, 7), SKUT_DONE, (uint64_t)-64, 0, 0);
+    answers("skut_sign_extend", "2^31 in 32 bits", skut_sign_extend(UINT32_C(1) << 31, 32), SKUT_DONE, (uint64_t)INT32_MIN, 0, 0);
+    answers("skut_sign_extend", "1 in 1 bit", skut_sign_extend(1, 1), SKUT_DONE, (uint64_t)-1, 0, 0);
+    answers("skut_sign_extend", "in 0 bits", skut_sign_extend(1, 0), SKUT_WIDTH, 0, 0, 0);
+    answers("skut_sign_extend", "in 33 bits", skut_sign_extend(1, 33), SKUT_WIDTH, 0, 0, 0);
+}
+
 void claim_cases(void)
 {
     as_it_was();
@@ -103,4 +114,5 @@ void claim_cases(void)
     own_state();
     plain_save();
     lookups();
+    extensions();
 }

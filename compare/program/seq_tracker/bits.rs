@@ -49,6 +49,14 @@ pub fn exhaustive(tally: &mut Tally) {
             extension(tally, val | u32::MAX << bits, bits);
         }
     }
+    // At every width: about its top bit and at its end, and the same with ones above the width.
+    for bits in 1..=32u8 {
+        let top = 1u64 << (bits - 1);
+        for val in [0, 1, top - 1, top, top + top - 1] {
+            extension(tally, val as u32, bits);
+            extension(tally, (val | u64::MAX << bits) as u32, bits);
+        }
+    }
     for x in 0..=255u8 {
         for before in 0..=8 {
             (0..=9).for_each(|width| read(tally, &[x], before, width));
