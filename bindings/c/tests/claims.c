@@ -1,4 +1,4 @@
-/* What the header says of saves, restores and lookups: when a table comes back as it was, small ones that do not, and which key answers. */
+/* What the header says of saves, restores, lookups and sign extension: when a table comes back as it was, small ones that do not, which key answers, and which signed number bits are. */
 #include "cases.h"
 
 #include <string.h>

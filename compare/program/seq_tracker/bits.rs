@@ -49,8 +49,8 @@ pub fn exhaustive(tally: &mut Tally) {
             extension(tally, val | u32::MAX << bits, bits);
         }
     }
-    // At every width: about its top bit and at its end, and the same with ones above the width.
-    for bits in 1..=32u8 {
+    // At the wider ones: about the top bit and at both ends, and the same with ones above the width, where there is room for them.
+    for bits in 13..=32u8 {
         let top = 1u64 << (bits - 1);
         for val in [0, 1, top - 1, top, top + top - 1] {
             extension(tally, val as u32, bits);

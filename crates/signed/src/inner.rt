@@ -1,4 +1,4 @@
-// Steps for our own crates: each asks what its caller has tested.
+// Powers of two and low bits: each asks what its caller has tested. Our other crates call `low_bits`.
 ghost use mathlib.Core.Path.{_≡_};
 ghost use Prim.Native.Nat.{_≤_, _^_, _%_};
 ghost use Rattle.signed.specs.Inner.{lowBits};

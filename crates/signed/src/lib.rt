@@ -4,7 +4,7 @@ ghost use mathlib.Core.Path.{_≡_};
 ghost use Rattle.signed.specs.Signed.{signed, pattern, subS, addS};
 ghost use Rattle.signed.specs.Extend.{toldExtend, extendRule};
 
-pub mod inner; // inner.rt: powers of two and low bits, for our own crates
+pub mod inner; // inner.rt: powers of two and low bits; our other crates call `low_bits`
 
 use crate::inner::low_of;
 use crate::inner::two_to;
@@ -57,6 +57,7 @@ pub fn sign_extend(val: u32, bits: u8) -> Extended
             let low = low_of(val as u64, bits);
             let top = two_to(bits - 1);
             let size = two_to(bits);
+            // Below 2^(bits - 1) the top bit is not set.
             if low < top {
                 Extended::Value(low as i64)
             } else {

@@ -37,6 +37,6 @@ fn extended() {
     assert_eq!((sign_extend(63, 7), sign_extend(64, 7)), (Ok(63), Ok(-64)));
     assert_eq!((sign_extend(u32::MAX - 64, 7), sign_extend(u32::MAX - 63, 7)), (Ok(63), Ok(-64)));
     assert_eq!((sign_extend(1 << 31, 32), sign_extend(u32::MAX, 32)), (Ok(-(1 << 31)), Ok(-1)));
-    assert_eq!((sign_extend(1, 1), sign_extend(2, 1)), (Ok(-1), Ok(0)));
+    assert_eq!((sign_extend(1, 1), sign_extend(4, 1)), (Ok(-1), Ok(0)));
     assert_eq!((sign_extend(0, 0), sign_extend(0, 33)), (Err(Error::Width), Err(Error::Width)));
 }
