@@ -21,7 +21,7 @@ pub cases : Cases
 unfolding arraysRule roomRule imageBytes leBytes arrayBits valuesBits codesBits codeBits rowOf packed bytesOf natFrom natBits wideOf wideIn wideAfter strict ranTo step runOf firstFrom evens lastOr listed readPairs readPart leCount readArray readValues valuesAfter readCodes readCode countOnes cutNumber takeBits bitsOf digits decimal signedDecimal line lines entriesText refusedText listingOf
 cases = record {
   extension = (refl, refl);
-  widths = (refl, refl, refl, refl, refl, refl);
+  extension-edges = (refl, refl, refl, refl, refl, refl);
   P1 = ((refl, refl), refl);
   P2 = refl;
   P3 = (refl, refl);

@@ -98,7 +98,7 @@ pub record Cases : Type 0 where
   -- Extension of 64 in 7 bits is -64; of 63 it is 63
   pub extension : (extendRule 64 7 ≡ gave (negℤ (pos 64))) × (extendRule 63 7 ≡ gave (pos 63))
   -- of 2^31 in 32 bits it is -2^31, of 1 in 1 bit -1, of 0 it is 0; bits above the width change nothing: 192 in 7 bits is -64; a width of 0 or 33 is refused
-  pub widths :
+  pub extension-edges :
       (extendRule 2147483648 32 ≡ gave (negℤ (pos 2147483648)))
       × (extendRule 1 1 ≡ gave (negℤ (pos 1))) × (extendRule 0 1 ≡ gave (pos 0)) × (extendRule 192 7 ≡ gave (negℤ (pos 64)))
       × (extendRule 1 0 ≡ refused (23 ∷ [])) × (extendRule 1 33 ≡ refused (23 ∷ []))
