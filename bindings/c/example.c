@@ -1,4 +1,4 @@
-/* A table from C: offers, a strict save, a restore, a lookup. The table outlives every refused call. */
+/* A table from C: offers and why some are skipped, a strict save, a restore, a lookup. The table outlives every refused call. */
 #include "skutlaneb.h"
 
 #include <stdio.h>
@@ -6,7 +6,8 @@
 /* The library was built for this layout. */
 _Static_assert(sizeof(struct skut_answer) == 32 && offsetof(struct skut_answer, a) == 8, "skut_answer");
 _Static_assert(sizeof(struct skut_state) == 32 && offsetof(struct skut_state, has_last) == 12, "skut_state");
-_Static_assert(sizeof(struct skut_table_answer) == 80 && offsetof(struct skut_table_answer, state) == 48, "skut_table_answer");
+_Static_assert(sizeof(struct skut_tally) == 24 && offsetof(struct skut_tally, too_soon) == 16, "skut_tally");
+_Static_assert(sizeof(struct skut_table_answer) == 88 && offsetof(struct skut_table_answer, state) == 56, "skut_table_answer");
 
 #define PLACES 8192
 
@@ -27,19 +28,36 @@ static struct skut_state kept_of_list(struct skut_state had, struct skut_table_a
     return number == SKUT_OFFERED_OUTSIDE || number == SKUT_OFFERED_DROPS ? said.state : kept(had, said);
 }
 
+/* What came of one offer that was not refused, in words. */
+static const char *outcome(struct skut_tally tally)
+{
+    return tally.recorded == 1 ? "recorded" : tally.went_back == 1 ? "went back" : "too soon";
+}
+
 int main(void)
 {
-    const uint64_t from_seqs[] = {100, 164, 170, 150};
-    const int64_t from_secs[] = {0, 60, 65, 125};
+    const uint64_t from_seqs[] = {100, 164, 170, 170, 170, 150};
+    const int64_t from_secs[] = {0, 60, 65, 59, 119, 125};
     struct skut_state table = skut_new().state;
-    struct skut_table_answer said = skut_offer_pairs(table, seqs, PLACES, secs, PLACES, from_seqs, 4, from_secs, 4);
+    struct skut_table_answer said = skut_offer_pairs(table, seqs, PLACES, secs, PLACES, from_seqs, 6, from_secs, 6);
     table = kept_of_list(table, said);
-    printf("%llu recorded, %llu skipped, refused %u at %llu: %zu pairs\n", (unsigned long long)said.recorded, (unsigned long long)said.skipped,
+    printf("%zu recorded, %zu went back, %zu too soon, refused %u at %llu: %zu pairs\n", said.tally.recorded, said.tally.went_back, said.tally.too_soon,
            said.answer.number, (unsigned long long)said.answer.a, table.count);
+
+    /* The last recorded second is 60: 59 is below it, and 119 less than the interval, 60, above it. */
+    const int64_t skipped[] = {59, 119};
+    for (size_t i = 0; i < 2; i++) {
+        said = skut_offer(table, seqs, PLACES, secs, PLACES, 170, skipped[i]);
+        if (said.answer.number != SKUT_DONE) {
+            return 1;
+        }
+        table = kept(table, said);
+        printf("one offer, second %lld: %s: %zu pairs\n", (long long)skipped[i], outcome(said.tally), table.count);
+    }
 
     said = skut_offer(table, seqs, PLACES, secs, PLACES, 150, 125);
     table = kept(table, said);
-    printf("one offer: refused %u: %zu pairs\n", said.answer.number, table.count);
+    printf("one offer, second 125: refused %u: %zu pairs\n", said.answer.number, table.count);
 
     struct skut_answer saved = skut_save_strict(table, seqs, PLACES, secs, PLACES, image, sizeof image);
     if (saved.number != SKUT_DONE) {

@@ -42,10 +42,19 @@ struct skut_state {
     int64_t last;
 };
 
-/* What a call answers that returns a state. Where it returns none, `state` is one that every call refuses by 14, skut_offer_pairs after 18. */
+/* What came of the pairs offered. A pair that is not refused is recorded, or it is skipped, for one of two reasons: it went back, its second being below the
+ * last recorded one, or it came too soon, its second being not below that one but less than the interval above it. Skipped, it changes neither the state
+ * nor an array. At interval 0 none comes too soon; before a second was recorded none is skipped. The last recorded second is the state's `last`, and not
+ * the last of the array: its pair need not be kept any more. */
+struct skut_tally {
+    size_t recorded, went_back, too_soon;
+};
+
+/* What a call answers that returns a state. Where it returns none, `state` is one that every call refuses by 14, skut_offer_pairs after 18, and the numbers of
+ * `tally` are 0; they are 0, too, where a table is made or restored. */
 struct skut_table_answer {
     struct skut_answer answer;
-    uint64_t recorded, skipped;
+    struct skut_tally tally;
     struct skut_state state;
 };
 
@@ -97,16 +106,17 @@ struct skut_table_answer skut_with_config(uint32_t capacity, uint64_t interval_s
  * Stack: 256 bytes. */
 struct skut_answer skut_check(struct skut_state state, const uint64_t *seqs, size_t seqs_len, const int64_t *secs, size_t secs_len);
 
-/* Offers a pair: `recorded` is 1, or `skipped` is 1 and the state is as it was; 16, 17. Stack: 512 bytes. */
+/* Offers a pair: 16; then it may be skipped; then 17; else it is recorded. Where it is not refused, exactly one number of `tally` is 1. Stack: 512 bytes. */
 struct skut_table_answer skut_offer(struct skut_state state, uint64_t *seqs, size_t seqs_len, int64_t *secs, size_t secs_len, uint64_t seq, int64_t sec);
 
-/* Offers pairs in order, from two lists of one length, up to the first that is refused (16, 17). Lists of different length are refused before all
- * else: 18. Stack: 768 bytes. */
+/* Offers pairs in order, from two lists of one length, up to the first that is refused (16, 17). The numbers of `tally` add up to the length, or to the position
+ * that is told with 16 or 17. Lists of different length are refused before all else: 18. Stack: 768 bytes. */
 struct skut_table_answer skut_offer_pairs(struct skut_state state, uint64_t *seqs, size_t seqs_len, int64_t *secs, size_t secs_len,
                                           const uint64_t *from_seqs, size_t from_seqs_len, const int64_t *from_secs, size_t from_secs_len);
 
-/* Offers the pairs of another table, whose arrays are not those of the own one. Where a table is bad (14, 11, 12, 13), which of the two is told last:
- * 0 for the own one, 1 for the other. Stack: 768 bytes. */
+/* Offers the pairs of another table, whose arrays are not those of the own one, up to the first that is refused (17). The numbers of `tally` add up to the other
+ * table's `count`, or to the position that is told with 17. Where a table is bad (14, 11, 12, 13), which of the two is told last: 0 for the own one, 1 for
+ * the other. Stack: 768 bytes. */
 struct skut_table_answer skut_extend_from(struct skut_state state, uint64_t *seqs, size_t seqs_len, int64_t *secs, size_t secs_len,
                                           struct skut_state other, const uint64_t *other_seqs, size_t other_seqs_len,
                                           const int64_t *other_secs, size_t other_secs_len);

@@ -39,19 +39,25 @@ int same_state(struct skut_state one, struct skut_state other)
            one.last == other.last;
 }
 
-void gives(const char *call, const char *when, struct skut_table_answer got, uint64_t recorded, uint64_t skipped, struct skut_state state)
+static int same_tally(struct skut_tally one, struct skut_tally other)
 {
-    int truth = same(got.answer, 0, 0, 0, 0) && got.recorded == recorded && got.skipped == skipped && same_state(got.state, state);
-    holds(call, when, truth, "the number is %u, %llu recorded, %llu skipped, count %zu, last %lld", got.answer.number, (unsigned long long)got.recorded,
-          (unsigned long long)got.skipped, got.state.count, (long long)got.state.last);
+    return one.recorded == other.recorded && one.went_back == other.went_back && one.too_soon == other.too_soon;
+}
+
+void gives(const char *call, const char *when, struct skut_table_answer got, struct skut_tally tally, struct skut_state state)
+{
+    int truth = same(got.answer, 0, 0, 0, 0) && same_tally(got.tally, tally) && same_state(got.state, state);
+    holds(call, when, truth, "the number is %u, %zu recorded, %zu went back, %zu too soon, count %zu, last %lld", got.answer.number, got.tally.recorded,
+          got.tally.went_back, got.tally.too_soon, got.state.count, (long long)got.state.last);
 }
 
 void gives_none(const char *call, const char *when, struct skut_table_answer got, uint32_t number, uint64_t a)
 {
     const char *taker = taken_by(got.state);
-    int truth = same(got.answer, number, a, 0, 0) && got.recorded == 0 && got.skipped == 0 && taker == NULL;
-    holds(call, when, truth, "expected %u with %llu and no state, and it is %u with %llu; its state is taken by %s", number, (unsigned long long)a,
-          got.answer.number, (unsigned long long)got.answer.a, taker == NULL ? "no call" : taker);
+    int truth = same(got.answer, number, a, 0, 0) && same_tally(got.tally, NO_PAIR) && taker == NULL;
+    holds(call, when, truth, "expected %u with %llu and no state, and it is %u with %llu; it counts %zu, %zu, %zu; its state is taken by %s", number,
+          (unsigned long long)a, got.answer.number, (unsigned long long)got.answer.a, got.tally.recorded, got.tally.went_back, got.tally.too_soon,
+          taker == NULL ? "no call" : taker);
 }
 
 int all_passed(void)

@@ -9,6 +9,10 @@
 /* A pointer and its length: no values. */
 #define NONE NULL, 0
 
+/* A tally by the names of its numbers; those not named are 0. */
+#define TALLY(...) ((struct skut_tally){__VA_ARGS__})
+#define NO_PAIR TALLY(.recorded = 0)
+
 /* A case, and what is said of it if it failed, as by printf. */
 void holds(const char *call, const char *when, int truth, const char *said, ...);
 
@@ -16,9 +20,9 @@ void holds(const char *call, const char *when, int truth, const char *said, ...)
 void answers(const char *call, const char *when, struct skut_answer got, uint32_t number, uint64_t a, uint64_t b, uint64_t c);
 
 /* A call that is not refused: what it counts, and its state. */
-void gives(const char *call, const char *when, struct skut_table_answer got, uint64_t recorded, uint64_t skipped, struct skut_state state);
+void gives(const char *call, const char *when, struct skut_table_answer got, struct skut_tally tally, struct skut_state state);
 
-/* A call that is refused and gives no state: what it answers, and that every call refuses the state that stands there. */
+/* A call that is refused and gives no state: what it answers, that it counts nothing, and that every call refuses the state that stands there. */
 void gives_none(const char *call, const char *when, struct skut_table_answer got, uint32_t number, uint64_t a);
 
 /* The call that does not refuse a state by 14, where there is one. */

@@ -33,12 +33,12 @@ static void as_it_was(void)
     const int64_t s[] = {0, 60};
     struct skut_state table = skut_offer_pairs(skut_new().state, ARRAYS, q, 2, s, 2).state;
     answers("skut_save_strict", "the default settings", skut_save_strict(table, ARRAYS, image, sizeof image), SKUT_DONE, 33, 0, 0);
-    gives("skut_restore", "the table is as it was", restored(33), 0, 0, table);
+    gives("skut_restore", "the table is as it was", restored(33), NO_PAIR, table);
     pairs("skut_restore", "the pairs are as they were", q, s, 2);
 
     const uint64_t other[] = {101, 165};
     image[16] ^= 1;
-    gives("skut_restore", "a changed bit is taken", restored(33), 0, 0, table);
+    gives("skut_restore", "a changed bit is taken", restored(33), NO_PAIR, table);
     pairs("skut_restore", "a changed bit makes other pairs", other, s, 2);
 }
 
@@ -48,10 +48,10 @@ static void other_settings(void)
     const int64_t s[] = {10, 20, 30, 40}, kept_s[] = {10, 30};
     struct skut_state saved = {2, 3, 1, 0, 40}, back = {2, PLACES, 1, 60, 30};
     struct skut_table_answer table = skut_offer_pairs(skut_with_config(3, 0).state, ARRAYS, q, 4, s, 4);
-    gives("skut_offer_pairs", "capacity 3 drops the newest pair", table, 4, 0, saved);
+    gives("skut_offer_pairs", "capacity 3 drops the newest pair", table, TALLY(.recorded = 4), saved);
     pairs("skut_offer_pairs", "capacity 3 keeps two pairs", kept_q, kept_s, 2);
     struct skut_answer written = skut_save_strict(table.state, ARRAYS, image, sizeof image);
-    gives("skut_restore", "capacity 3 comes back with last 30 and the default settings", restored(written.a), 0, 0, back);
+    gives("skut_restore", "capacity 3 comes back with last 30 and the default settings", restored(written.a), NO_PAIR, back);
     pairs("skut_restore", "capacity 3 comes back with the pairs", kept_q, kept_s, 2);
 }
 
@@ -64,7 +64,7 @@ static void own_state(void)
     secs[0] = 10;
     answers("skut_check", "last 20 above the last pair", skut_check(made, ARRAYS), SKUT_DONE, 0, 0, 0);
     answers("skut_save_strict", "last 20 above the last pair", skut_save_strict(made, ARRAYS, image, sizeof image), SKUT_DONE, 29, 0, 0);
-    gives("skut_restore", "last 20 comes back as 10", restored(29), 0, 0, back);
+    gives("skut_restore", "last 20 comes back as 10", restored(29), NO_PAIR, back);
     pairs("skut_restore", "last 20 comes back with the pair", q, s, 1);
 }
 
@@ -76,7 +76,7 @@ static void plain_save(void)
     answers("skut_save_strict", "a step of 2^33", skut_save_strict(table, ARRAYS, image, sizeof image), SKUT_WIDE, 0, 1, 0);
     struct skut_answer saved = skut_save(table, ARRAYS, image, sizeof image);
     answers("skut_save", "a step of 2^33", saved, SKUT_DONE, 36, 0, 0);
-    gives("skut_restore", "a step of 2^33 is taken", restored(saved.a), 0, 0, table);
+    gives("skut_restore", "a step of 2^33 is taken", restored(saved.a), NO_PAIR, table);
     pairs("skut_restore", "a step of 2^33 comes back as 0", back, s, 2);
 }
 

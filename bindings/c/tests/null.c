@@ -51,14 +51,14 @@ static void bad_tables(struct skut_state table, const struct lending *lent)
 static void good_tables(struct skut_state table)
 {
     struct skut_state as_new = {0, PLACES, 0, 60, 0}, least = {0, 0, 0, 0, 0};
-    gives("skut_new", "has no slice", skut_new(), 0, 0, as_new);
-    gives("skut_with_config", "has no slice", skut_with_config(0, 0), 0, 0, least);
+    gives("skut_new", "has no slice", skut_new(), NO_PAIR, as_new);
+    gives("skut_with_config", "has no slice", skut_with_config(0, 0), NO_PAIR, least);
     answers("skut_check", "an empty table in room", skut_check(table, ROOM), SKUT_DONE, 0, 0, 0);
     answers("skut_check of capacity 0", "room for one pair", skut_check(least, seqs, 1, secs, 1), SKUT_DONE, 0, 0, 0);
-    gives("skut_offer_pairs", "both lists NULL", skut_offer_pairs(table, ROOM, NONE, NONE), 0, 0, table);
+    gives("skut_offer_pairs", "both lists NULL", skut_offer_pairs(table, ROOM, NONE, NONE), NO_PAIR, table);
     gives_none("skut_offer_pairs", "the list of sequences NULL", skut_offer_pairs(table, ROOM, NONE, one_sec, 1), SKUT_LENGTHS_DIFFER, 0);
     gives_none("skut_offer_pairs", "the list of seconds NULL", skut_offer_pairs(table, ROOM, one_seq, 1, NONE), SKUT_LENGTHS_DIFFER, 0);
-    gives("skut_extend_from", "an empty table of capacity 0", skut_extend_from(table, ROOM, least, seqs, 1, secs, 1), 0, 0, table);
+    gives("skut_extend_from", "an empty table of capacity 0", skut_extend_from(table, ROOM, least, seqs, 1, secs, 1), NO_PAIR, table);
     answers("skut_find_ts", "an empty table", skut_find_ts(table, ROOM, 5, SKUT_ROUND_DOWN), SKUT_DONE, 0, 0, 0);
     answers("skut_find_seq", "an empty table", skut_find_seq(table, ROOM, 60, SKUT_ROUND_UP), SKUT_DONE, 0, 0, 0);
     answers("skut_save", "an empty table, output NULL", skut_save(table, ROOM, NONE), SKUT_ROOM, 13, 0, 0);
