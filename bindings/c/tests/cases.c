@@ -44,11 +44,23 @@ static int same_tally(struct skut_tally one, struct skut_tally other)
     return one.recorded == other.recorded && one.went_back == other.went_back && one.too_soon == other.too_soon;
 }
 
+/* An answer with a state, whose only value is a. */
+static void has_state(const char *call, const char *when, struct skut_table_answer got, uint32_t number, uint64_t a, struct skut_tally tally,
+                      struct skut_state state)
+{
+    int truth = same(got.answer, number, a, 0, 0) && same_tally(got.tally, tally) && same_state(got.state, state);
+    holds(call, when, truth, "the number is %u with %llu, %zu recorded, %zu went back, %zu too soon, count %zu, last %lld", got.answer.number,
+          (unsigned long long)got.answer.a, got.tally.recorded, got.tally.went_back, got.tally.too_soon, got.state.count, (long long)got.state.last);
+}
+
 void gives(const char *call, const char *when, struct skut_table_answer got, struct skut_tally tally, struct skut_state state)
 {
-    int truth = same(got.answer, 0, 0, 0, 0) && same_tally(got.tally, tally) && same_state(got.state, state);
-    holds(call, when, truth, "the number is %u, %zu recorded, %zu went back, %zu too soon, count %zu, last %lld", got.answer.number, got.tally.recorded,
-          got.tally.went_back, got.tally.too_soon, got.state.count, (long long)got.state.last);
+    has_state(call, when, got, SKUT_DONE, 0, tally, state);
+}
+
+void stops(const char *call, const char *when, struct skut_table_answer got, uint32_t number, struct skut_tally tally, struct skut_state state)
+{
+    has_state(call, when, got, number, tally.recorded + tally.went_back + tally.too_soon, tally, state);
 }
 
 void gives_none(const char *call, const char *when, struct skut_table_answer got, uint32_t number, uint64_t a)

@@ -22,6 +22,9 @@ void answers(const char *call, const char *when, struct skut_answer got, uint32_
 /* A call that is not refused: what it counts, and its state. */
 void gives(const char *call, const char *when, struct skut_table_answer got, struct skut_tally tally, struct skut_state state);
 
+/* A list of offers that is refused at a record: the number; the position, to which the tally adds up; and the state that those before it left. */
+void stops(const char *call, const char *when, struct skut_table_answer got, uint32_t number, struct skut_tally tally, struct skut_state state);
+
 /* A call that is refused and gives no state: what it answers, that it counts nothing, and that every call refuses the state that stands there. */
 void gives_none(const char *call, const char *when, struct skut_table_answer got, uint32_t number, uint64_t a);
 
@@ -33,6 +36,7 @@ int same_state(struct skut_state one, struct skut_state other);
 void null_cases(void);
 void refused_cases(void);
 void claim_cases(void);
+void reason_cases(void);
 
 /* Prints `N passed, M failed`, and gives whether nothing failed. */
 int all_passed(void);

@@ -9,5 +9,6 @@ int main(void)
     null_cases();
     refused_cases();
     claim_cases();
+    reason_cases();
     return all_passed() ? 0 : 1;
 }
