@@ -1,12 +1,30 @@
 //! What comes of a list of offers.
-use crate::Error;
+use crate::{sys, Error};
 use std::fmt;
 
-/// How many of a list's pairs were recorded and how many skipped.
+/// How many of a list's pairs were recorded, and how many skipped, by the reason; [`Inserted`](crate::Inserted) says when each occurs. The three numbers add up to
+/// the list's length or, where a pair is refused, to its position: [`ListError::Stopped`].
 #[derive(Clone, Copy, Debug, Default, PartialEq, Eq, Hash)]
 pub struct Tally {
+    /// [`Inserted::Recorded`](crate::Inserted::Recorded).
     pub recorded: u64,
-    pub skipped: u64,
+    /// [`Inserted::WentBack`](crate::Inserted::WentBack): skipped, as the second is below the last recorded one.
+    pub went_back: u64,
+    /// [`Inserted::TooSoon`](crate::Inserted::TooSoon): skipped, as the second is not below the last recorded one but less than the interval above it.
+    pub too_soon: u64,
+}
+
+impl Tally {
+    /// How many were skipped, for either reason.
+    pub fn skipped(&self) -> u64 {
+        self.went_back + self.too_soon
+    }
+}
+
+impl From<sys::Tally> for Tally {
+    fn from(tally: sys::Tally) -> Tally {
+        Tally { recorded: tally.recorded as u64, went_back: tally.went_back as u64, too_soon: tally.too_soon as u64 }
+    }
 }
 
 /// Why a list of offers did not go to its end. Its sentence says where it stopped; [`ListError::why`] and `source` say why.
@@ -15,7 +33,7 @@ pub struct Tally {
 /// a list to it has one error type; it says neither at which pair nor of which table it is, so it becomes [`ListError::Apart`], and no place is made up.
 #[derive(Clone, Copy, Debug, PartialEq, Eq, Hash)]
 pub enum ListError {
-    /// The pair at this position, counted from 0, is refused. Those before it were offered, and the table keeps what came of them.
+    /// The pair at this position, counted from 0, is refused. Those before it were offered, and the table keeps what came of them; `before` counts them.
     Stopped { at: u64, why: Error, before: Tally },
     /// The table itself is bad, and nothing was offered.
     Own(Error),

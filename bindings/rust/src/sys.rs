@@ -28,13 +28,22 @@ pub struct State {
     pub last: i64,
 }
 
+/// How many of the pairs offered were recorded, and how many skipped, by the reason: the second is below the last recorded one (`went_back`), or not below it
+/// but less than the interval above it (`too_soon`). A pair that is refused is not counted. All three are 0 where nothing was offered.
+#[repr(C)]
+#[derive(Clone, Copy, Debug, Default, PartialEq, Eq)]
+pub struct Tally {
+    pub recorded: usize,
+    pub went_back: usize,
+    pub too_soon: usize,
+}
+
 /// The answer of a call that returns a state.
 #[repr(C)]
 #[derive(Clone, Copy, Debug, PartialEq, Eq)]
 pub struct TableAnswer {
     pub answer: Answer,
-    pub recorded: u64,
-    pub skipped: u64,
+    pub tally: Tally,
     pub state: State,
 }
 

@@ -15,8 +15,8 @@ pub use pairs::Pairs;
 
 /// Which second a sequence number belongs to, and which sequence number a second.
 ///
-/// The table keeps pairs of the two, both in order, in arrays of its own. A pair that comes less than the interval after the last
-/// recorded one is skipped; where more pairs than the capacity would stand, every second one is dropped.
+/// The table keeps pairs of the two, both in order, in arrays of its own. A pair whose second is below the last recorded one, or less than the interval
+/// above it, is skipped, and [`Inserted`] says which it was; where more pairs than the capacity would stand, every second one is dropped.
 ///
 /// # Storage
 ///

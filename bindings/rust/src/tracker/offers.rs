@@ -1,27 +1,57 @@
 //! Offers, one by one and in lists.
 use super::SequenceTracker;
 use crate::calls::{self, done};
-use crate::sys::TableAnswer;
+use crate::sys::{self, TableAnswer};
 use crate::{Error, ListError, Tally, TrackedSeq};
 
-/// What came of an offered pair.
+/// What came of an offered pair. It is recorded, or it is skipped, for one of two reasons; skipped, it leaves the table as it was.
+///
+/// The last recorded second decides, [`SequenceTracker::last_recorded`]. Its pair need not be kept any more, so that a pair may have gone back whose second is above
+/// all that are kept. Before a second was recorded no pair is skipped.
 #[derive(Clone, Copy, Debug, PartialEq, Eq, Hash)]
 pub enum Inserted {
     /// It was recorded, and its second is the last recorded one. If there were too many pairs, every second one was dropped: at an odd capacity, and at 0,
     /// this one too.
     Recorded,
-    /// Less than the interval has passed since the last recorded second. The table is as it was.
-    Skipped,
+    /// It was skipped, as its second is below the last recorded one: a clock may be behind.
+    WentBack,
+    /// It was skipped, as its second is not below the last recorded one but less than the interval above it. At interval 0 this does not occur.
+    TooSoon,
+}
+
+impl Inserted {
+    /// The outcome of an offer that was not refused: one number is 1, and the others are 0.
+    fn of(tally: &sys::Tally) -> Inserted {
+        if tally.went_back != 0 {
+            Inserted::WentBack
+        } else if tally.too_soon != 0 {
+            Inserted::TooSoon
+        } else {
+            Inserted::Recorded
+        }
+    }
 }
 
 impl SequenceTracker {
     /// Offers a pair. It is refused where its second is outside the years 0001 to 9999 (16), and where it is not skipped and its sequence is below the last
     /// kept one (17), at which slatedb panics.
+    ///
+    /// ```no_run
+    /// # use skutlaneb::{Inserted, SequenceTracker, TrackedSeq};
+    /// # fn main() -> Result<(), Box<dyn std::error::Error>> {
+    /// let mut tracker = SequenceTracker::with_config(8192, 60)?;
+    /// assert_eq!(tracker.insert(TrackedSeq::from((1, 100)))?, Inserted::Recorded);
+    /// assert_eq!(tracker.insert(TrackedSeq::from((2, 159)))?, Inserted::TooSoon);
+    /// assert_eq!(tracker.insert(TrackedSeq::from((2, 99)))?, Inserted::WentBack);
+    /// assert_eq!(tracker.insert(TrackedSeq::from((2, 160)))?, Inserted::Recorded);
+    /// # Ok(())
+    /// # }
+    /// ```
     pub fn insert(&mut self, pair: TrackedSeq) -> Result<Inserted, Error> {
         let answer = calls::offer(self.state, &mut self.seqs, &mut self.secs, pair.seq.0, pair.ts.0);
         done(answer.answer)?;
         self.state = answer.state;
-        Ok(if answer.skipped == 0 { Inserted::Recorded } else { Inserted::Skipped })
+        Ok(Inserted::of(&answer.tally))
     }
 
     /// Offers pairs in order, up to the first that is refused (16, 17); those before it are kept. The table is checked once, which makes this faster than
@@ -43,7 +73,7 @@ impl SequenceTracker {
 
     /// What came of a list. Only a refusal of a record (16, 17) comes with a state.
     fn listed(&mut self, answer: TableAnswer) -> Result<Tally, ListError> {
-        let tally = Tally { recorded: answer.recorded, skipped: answer.skipped };
+        let tally = Tally::from(answer.tally);
         let told = answer.answer;
         match Error::of(&told) {
             None => {

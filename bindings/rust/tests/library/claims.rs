@@ -108,7 +108,7 @@ fn equal_but_other() {
     let mut one = table(3, 0, &[(1, 10), (2, 20), (3, 30), (4, 40)]);
     let mut other = table(3, 0, &[(1, 10), (3, 30)]);
     assert_eq!(one, other);
-    assert_eq!((one.insert(pair(5, 35)), other.insert(pair(5, 35))), (Ok(Inserted::Skipped), Ok(Inserted::Recorded)));
+    assert_eq!((one.insert(pair(5, 35)), other.insert(pair(5, 35))), (Ok(Inserted::WentBack), Ok(Inserted::Recorded)));
 }
 
 /// The search that the docs of `find_ts` show, and the same rounding down.

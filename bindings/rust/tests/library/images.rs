@@ -39,7 +39,7 @@ fn two_pairs() {
 fn goes_on() {
     let mut restored = SequenceTracker::from_bytes(&TWO_PAIRS).unwrap();
     assert_eq!((restored.capacity(), restored.interval_secs()), (8192, 60));
-    assert_eq!(restored.insert(pair(170, 119)), Ok(Inserted::Skipped));
+    assert_eq!(restored.insert(pair(170, 119)), Ok(Inserted::TooSoon));
     assert_eq!(restored.insert(pair(163, 120)), Err(Error::OfferedDrops));
     assert_eq!(restored.insert(pair(164, 120)), Ok(Inserted::Recorded));
     assert_eq!(kept(&restored), [(100, 0), (164, 60), (164, 120)]);

@@ -1,6 +1,6 @@
 //! The library's functions as they are: layout, memory, states that no call returned.
 use crate::run::Case;
-use skutlaneb::sys::{self, Answer, State, TableAnswer};
+use skutlaneb::sys::{self, Answer, State, TableAnswer, Tally};
 use std::mem::{offset_of, size_of};
 use std::ptr::{null, null_mut};
 
@@ -16,8 +16,8 @@ fn layout() {
     assert_eq!((size_of::<Answer>(), offset_of!(Answer, a), offset_of!(Answer, b), offset_of!(Answer, c)), (32, 8, 16, 24));
     assert_eq!((size_of::<State>(), offset_of!(State, capacity), offset_of!(State, has_last)), (32, 8, 12));
     assert_eq!((offset_of!(State, interval_secs), offset_of!(State, last)), (16, 24));
-    assert_eq!((size_of::<TableAnswer>(), offset_of!(TableAnswer, recorded)), (80, 32));
-    assert_eq!((offset_of!(TableAnswer, skipped), offset_of!(TableAnswer, state)), (40, 48));
+    assert_eq!((size_of::<Tally>(), offset_of!(Tally, recorded), offset_of!(Tally, went_back), offset_of!(Tally, too_soon)), (24, 0, 8, 16));
+    assert_eq!((size_of::<TableAnswer>(), offset_of!(TableAnswer, tally), offset_of!(TableAnswer, state)), (88, 32, 56));
 }
 
 fn no_memory() {
@@ -62,7 +62,7 @@ fn neither() {
     for has_last in [2, 3, u32::MAX] {
         let (state, number) = (State { has_last, ..good }, 14);
         let (s, z) = (seqs.as_mut_ptr(), secs.as_mut_ptr());
-        let given_none = |a| TableAnswer { answer: Answer { number, a, b: 0, c: 0 }, recorded: 0, skipped: 0, state: none };
+        let given_none = |a| TableAnswer { answer: Answer { number, a, b: 0, c: 0 }, tally: Tally::default(), state: none };
         let refused = Answer { number, a: 0, b: 0, c: 0 };
         unsafe {
             assert_eq!(sys::skut_check(state, s, 4, z, 4), refused);
@@ -86,7 +86,7 @@ fn uneven() {
     let (from_seqs, from_secs) = ([1u64, 2], [10i64, 20]);
     let good = unsafe { sys::skut_with_config(4, 0) }.state;
     let none = unsafe { sys::skut_with_config(8193, 0) }.state;
-    let refused = TableAnswer { answer: Answer { number: 18, a: 0, b: 0, c: 0 }, recorded: 0, skipped: 0, state: none };
+    let refused = TableAnswer { answer: Answer { number: 18, a: 0, b: 0, c: 0 }, tally: Tally::default(), state: none };
     for (state, n, m) in [(good, 2, 1), (good, 1, 2), (good, 0, 1), (good, 1, 0), (none, 2, 1), (none, 0, 2)] {
         let (s, z) = (seqs.as_mut_ptr(), secs.as_mut_ptr());
         let told = unsafe { sys::skut_offer_pairs(state, s, 4, z, 4, from_seqs.as_ptr(), n, from_secs.as_ptr(), m) };

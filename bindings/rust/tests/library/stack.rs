@@ -3,7 +3,8 @@
 //! A call is made on painted memory, its arguments laid out here by the rules of the System V convention, so that no frame of this program stands there. What
 //! is written to is the arguments that go by the stack, the return address and what the library uses: the same in a debug and in a release build.
 use crate::run::Case;
-use skutlaneb::sys::{self, State};
+use skutlaneb::sys::{self, State, TableAnswer};
+use std::mem::size_of;
 
 pub const CASES: &[Case] = &[("no call needs more stack than the header says", stack)];
 
@@ -97,7 +98,7 @@ fn stack_of(&(name, function, ref args): &Call) -> usize {
     let skipped = (painted.as_ptr() as usize / 8 + painted.len() - pushed.len()) % 2;
     let at = painted.len() - pushed.len() - skipped;
     painted[at..at + pushed.len()].copy_from_slice(&pushed);
-    let mut answer = [u64::MAX; 10];
+    let mut answer = [u64::MAX; size_of::<TableAnswer>() / 8];
     unsafe {
         std::arch::asm!(
             "mov r12, rsp",

@@ -60,7 +60,7 @@ fn capacity_3() {
     assert_eq!(kept(&full), [(1, 10), (3, 30)]);
     assert_eq!(full.last_recorded(), Some(Second(40)));
     assert_eq!(full.clone().insert(pair(3, 45)), Ok(Inserted::Recorded));
-    assert_eq!(full.clone().insert(pair(9, 39)), Ok(Inserted::Skipped));
+    assert_eq!(full.clone().insert(pair(9, 39)), Ok(Inserted::WentBack));
 }
 
 fn capacity_0() {
@@ -81,8 +81,8 @@ fn halving() {
 
 fn interval() {
     let mut tracker = table(8, 60, &[(1, 100)]);
-    for skipped in [159, 99] {
-        assert_eq!(tracker.insert(pair(2, skipped)), Ok(Inserted::Skipped));
+    for (second, skipped) in [(159, Inserted::TooSoon), (99, Inserted::WentBack)] {
+        assert_eq!(tracker.insert(pair(2, second)), Ok(skipped));
         assert_eq!(kept(&tracker), [(1, 100)]);
     }
     assert_eq!(tracker.insert(pair(2, 160)), Ok(Inserted::Recorded));

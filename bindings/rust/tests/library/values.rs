@@ -42,8 +42,10 @@ fn keys() {
     assert_eq!(distinct([Second(1), Second(-1), Second(1)]), 2);
     assert_eq!(distinct([pair(1, 2), pair(1, 3), pair(1, 2)]), 2);
     assert_eq!(distinct([FindOption::RoundUp, FindOption::RoundDown]), 2);
-    assert_eq!(distinct([Inserted::Recorded, Inserted::Skipped]), 2);
-    assert_eq!(distinct([Tally::default(), Tally { recorded: 0, skipped: 0 }, Tally { recorded: 1, skipped: 0 }]), 2);
+    assert_eq!(distinct([Inserted::Recorded, Inserted::WentBack, Inserted::TooSoon]), 3);
+    let (recorded, went_back, too_soon) = (1, 1, 1);
+    let none = Tally { recorded: 0, went_back: 0, too_soon: 0 };
+    assert_eq!(distinct([Tally::default(), none, Tally { recorded, ..none }, Tally { went_back, ..none }, Tally { too_soon, ..none }]), 4);
     assert_eq!(distinct([Array::Sequences, Array::Seconds]), 2);
     assert_eq!(distinct([Error::Empty, Error::Settings, Error::Empty]), 2);
     assert_eq!(distinct([ListError::Own(Error::Empty), ListError::Other(Error::Empty)]), 2);
