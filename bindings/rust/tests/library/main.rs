@@ -8,6 +8,7 @@ mod images;
 mod lists;
 mod pairs;
 mod raw;
+mod reasons;
 mod run;
 mod stack;
 mod tables;
@@ -16,7 +17,7 @@ mod values;
 
 #[no_mangle]
 pub extern "C" fn main(_argc: i32, _argv: *const *const u8) -> i32 {
-    let tracker = [tables::CASES, pairs::CASES, lists::CASES, images::CASES, claims::CASES];
+    let tracker = [tables::CASES, pairs::CASES, lists::CASES, reasons::CASES, images::CASES, claims::CASES];
     let others = [values::CASES, times::CASES, errors::CASES, arrays::CASES, bits::CASES, raw::CASES, stack::CASES];
     run::run(&[tracker.concat(), others.concat()].concat())
 }
