@@ -111,7 +111,7 @@ def image_of(text):
     return data
 
 
-RECORDED, SKIPPED, REFUSED = 0, 1, 17
+REFUSED = 17
 
 
 def offered(text):

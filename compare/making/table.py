@@ -1,6 +1,7 @@
 """Tables: offers, what stands after them, lookups, extend_from, save and restore."""
 from .images import ALL_ROWS, P5, encoded, image
-from .oracle import RECORDED, REFUSED, SKIPPED, State, hexed, image_of, listed, offered, refusal
+from .oracle import REFUSED, State, hexed, image_of, listed, offered, refusal
+from .reasons import RECORDED, TOO_SOON, WENT_BACK, outcome, outcomes
 from .records import LISTED, Rule, digest, i64, i64s, last, u8, u16, u32, u64, u64s
 
 FIRST_SECOND, LAST_SECOND = -62135596800, 253402300799
@@ -28,13 +29,29 @@ class Table:
         return answer
 
     def offer(self, seq, sec):
-        answer = offered(self.step(f"offer {seq}:{sec}"))
-        outcome = {(1, 0, 0): RECORDED, (0, 1, 0): SKIPPED, (0, 0, REFUSED): REFUSED}[answer]
-        self.records.add("O", u64(seq) + i64(sec) + u8(outcome), offers=1)
+        stood = self.state
+        came = outcome(offered(self.step(f"offer {seq}:{sec}")), stood.last, stood.interval, sec)
+        self.records.add("O", u64(seq) + i64(sec) + u8(came), offers=1)
+
+    def counts(self, pairs):
+        """Pairs offered in turn, up to the first refusal: how many were recorded, went back and came too soon, the refusal's number, and
+        the table that they would leave. They are offered to the Rust as a list and one by one, which has to come to the same."""
+        answer, left = self.ask(["offer" + listed(pairs), "show"])
+        recorded, skipped, refused = offered(answer)
+        pairs = pairs[: recorded + skipped + (refused == REFUSED)]
+        *answers, shown = self.ask([f"offer {seq}:{sec}" for seq, sec in pairs] + ["show"])
+        came, followed = outcomes(map(offered, answers), pairs, self.state.last, self.state.interval)
+        back, soon = came.count(WENT_BACK), came.count(TOO_SOON)
+        told = came.count(RECORDED), back + soon, REFUSED if REFUSED in came else 0
+        if told != (recorded, skipped, refused) or shown != left or State(left).last != followed:
+            raise ValueError(f"{answer}; one by one: {told}, and the last recorded second {followed}")
+        return recorded, back, soon, refused, left
 
     def offer_rule(self, rule):
-        recorded, skipped, refused = offered(self.step("offer" + listed(rule.pairs())))
-        self.records.add("G", rule.body() + u32(recorded) + u32(skipped) + u8(refused), runs=1)
+        pairs = list(rule.pairs())
+        recorded, back, soon, refused, _ = self.counts(pairs)
+        self.step("offer" + listed(pairs))
+        self.records.add("G", rule.body() + u32(recorded) + u32(back) + u32(soon) + u8(refused), runs=1)
 
     def show(self):
         """The table as it stands: listed where it is short, else by digests."""
@@ -68,15 +85,14 @@ class Table:
 
     def extend(self, capacity, interval, pairs):
         """extend_from. Its counts are those of the same pairs offered one by one, which has to leave the same table."""
-        offer, command = "offer" + listed(pairs), f"extend {capacity} {interval}" + listed(pairs)
-        counts, one_by_one = self.ask([offer, "show"])
-        recorded, skipped, refused = offered(counts)
+        command = f"extend {capacity} {interval}" + listed(pairs)
+        recorded, back, soon, refused, one_by_one = self.counts(pairs)
         answer = self.step(command)
         if self.ask(["show"]) != [one_by_one] or (answer != "ok") != (refused != 0):
-            raise ValueError(f"{command}: {answer}; one by one: {counts}")
+            raise ValueError(f"{command}: {answer}; one by one: {one_by_one}")
         seqs, secs = [a for a, _ in pairs], [b for _, b in pairs]
         body = u32(capacity) + u64(interval) + u8(len(pairs)) + u64s(seqs) + i64s(secs)
-        self.records.add("X", body + u16(recorded) + u16(skipped) + u8(refused), extends=1)
+        self.records.add("X", body + u16(recorded) + u16(back) + u16(soon) + u8(refused), extends=1)
         self.show()
 
     def restore(self, data):
@@ -141,7 +157,7 @@ def settings(oracle, records, chance):
 
 
 def worked(oracle, records):
-    """The cases P8 to P12 of docs/RULES.md."""
+    """The cases P8 to P12 of docs/RULES.md, and a second that is the last recorded one: recorded at interval 0, too soon at 1."""
     offers = [(1, 10), (2, 20), (3, 30), (4, 40), (5, 50)]
     for capacity, n, later in ((4, 5, []), (3, 4, [(3, 45)]), (3, 4, [(9, 39)]), (0, 2, [])):
         table = Table(oracle, records, capacity, 0)
@@ -150,10 +166,27 @@ def worked(oracle, records):
             table.show()
         table.find([0, 1, 2, 3, 4, 5, 6], [9, 10, 11, 29, 30, 31, 50, 51])
         table.save()
-    table = Table(oracle, records, 8192, 60)
-    for seq, sec in ((1, 100), (2, 159), (2, 99), (2, 160)):
-        table.offer(seq, sec)
-        table.show()
+    equal = [(1, 100), (2, 100)]
+    for interval, pairs in ((60, [(1, 100), (2, 159), (2, 99), (2, 160)]), (0, equal), (1, equal)):
+        table = Table(oracle, records, 8192, interval)
+        for seq, sec in pairs:
+            table.offer(seq, sec)
+            table.show()
+
+
+def skips(oracle, records):
+    """Seconds at the limits of each reason, with a sequence below the last kept one and with one above it. At capacity 3 halving drops the
+    newest pair, so that the last recorded second is not the last kept one's; at 4 it is."""
+    for capacity in (3, 4):
+        for interval in (0, 1, 60, LONGEST_INTERVAL):
+            table = Table(oracle, records, capacity, interval)
+            for i in range(capacity + 1):
+                table.offer(i + 1, 1000 + 60 * i)
+            from_sec = table.state.last
+            for sec in (FIRST_SECOND, from_sec - 1, from_sec, clamp(from_sec + interval - 1), clamp(from_sec + interval)):
+                for seq in (0, 9):
+                    table.offer(seq, sec)
+                    table.show()
 
 
 def equal_keys(oracle, records, chance):
@@ -207,7 +240,7 @@ def full(oracle, records, chance):
 
 
 def long_runs(oracle, records, chance):
-    """Skipped ones among the offers, a second halving, and a rule whose offers end in a refusal."""
+    """Skipped ones among the offers, for one reason and for both, a second halving, and rules whose offers end in a refusal."""
     table = Table(oracle, records, 8192, 10)
     table.offer_rule(Rule(16000, 8202, (5, 0, 0xFFFFF), (LAST_SECOND - 16000 * 15, 8, 7)))
     stand(table, chance)
@@ -219,6 +252,12 @@ def long_runs(oracle, records, chance):
         table.offer_rule(Rule(1000, 21, (1, 1, 7), (-500, 6, 7)))
         table.show()
         table.save()
+        state = table.state
+        table.offer_rule(Rule(1000, 22, (state.seqs[-1], 0, 7), (state.last, -6, 15)))
+        table.show()
+        state = table.state
+        table.offer_rule(Rule(1000, 23, (state.seqs[-1] + 60, -9, 15), (state.last, -6, 15)))
+        table.show()
 
 
 def rising(chance, n, seq, sec, steps):
@@ -245,6 +284,11 @@ def extends(oracle, records, chance):
     table.extend(0, LONGEST_INTERVAL, [(5, 5)])
     table.extend(2, 7, [(4, 4), (9, 9)])
     table.extend(2, 7, [(4, 6), (9, 9)])
+    for capacity in (3, 4):
+        table = Table(oracle, records, capacity, 60)
+        table.offer(5, 1000)
+        table.extend(8, 0, list(enumerate((900, 999, 1000, 1059, 1060, 1119, 1120, 1180), 3)))
+        table.extend(4, 0, [(1, sec) for sec in (1179, 1180, 1239, 1240)])
 
 
 def restores(oracle, records, chance):
@@ -270,6 +314,7 @@ def restores(oracle, records, chance):
 
 def add(oracle, records, chance):
     worked(oracle, records)
+    skips(oracle, records)
     settings(oracle, records, chance)
     equal_keys(oracle, records, chance)
     full(oracle, records, chance)
