@@ -16,7 +16,7 @@ class Table:
     def __init__(self, oracle, records, capacity, interval):
         self.oracle, self.records, self.commands = oracle, records, []
         self.step(f"table {capacity} {interval}")
-        records.add("T", u32(capacity) + u64(interval))
+        records.add("T", u32(capacity) + u64(interval), tables=1)
 
     def ask(self, commands):
         return self.oracle.ask(self.commands + commands)[len(self.commands) :]
