@@ -1,5 +1,6 @@
 // Records that change the standing table: T, O, G, X and R.
 use log::Logged;
+use log::Tally;
 use offers::Offered;
 use restoring::Restored;
 use std::num::wrapping_add_usize as after;
@@ -24,11 +25,10 @@ pub struct Changed {
     pub agreed: bool,
 }
 
-// What came of a list of offers: how many were recorded and skipped, and the number of a refusal, 0 if none.
+// What came of a list of offers: how many were recorded, went back and came too soon, and the number of a refusal, 0 if none.
 struct Ran {
     table: SequenceTracker,
-    recorded: usize,
-    skipped: usize,
+    tally: Tally,
     refused: usize,
 }
 
@@ -47,9 +47,14 @@ fn number_of(why: Refusal) -> usize {
     }
 }
 
-// A refusal at a position: it has to be that of the record after those that were offered.
-fn stopped_at(at: usize, why: Refusal, offered: usize) -> usize {
-    if at == offered {
+// How many records a tally counts.
+fn total(tally: Tally) -> usize {
+    after(after(tally.recorded, tally.went_back), tally.too_soon)
+}
+
+// A refusal at a position: it has to be that of the record after those that were counted.
+fn stopped_at(at: usize, why: Refusal, tally: Tally) -> usize {
+    if at == total(tally) {
         return number_of(why);
     }
     UNEXPECTED
@@ -75,9 +80,13 @@ pub fn offered(b: &[u8], table: SequenceTracker, seqs: &mut [u64], secs: &mut [i
             table: next,
             agreed: outcome == 0,
         },
-        Offered::Skipped => Changed {
+        Offered::WentBack => Changed {
             table: table,
             agreed: outcome == 1,
+        },
+        Offered::TooSoon => Changed {
+            table: table,
+            agreed: outcome == 2,
         },
         Offered::Refused(why) => Changed {
             table: table,
@@ -86,10 +95,15 @@ pub fn offered(b: &[u8], table: SequenceTracker, seqs: &mut [u64], secs: &mut [i
     }
 }
 
+fn counted_so(tally: Tally, told: Tally) -> bool {
+    let skipped = (tally.went_back == told.went_back) & (tally.too_soon == told.too_soon);
+    (tally.recorded == told.recorded) & skipped
+}
+
 // A list's outcome against the counts and the refusal of a record.
-fn ran_so(ran: Ran, recorded: usize, skipped: usize, refused: usize) -> Changed {
+fn ran_so(ran: Ran, told: Tally, refused: usize) -> Changed {
     let table = ran.table;
-    let counts = (ran.recorded == recorded) & (ran.skipped == skipped);
+    let counts = counted_so(ran.tally, told);
     Changed {
         table: table,
         agreed: counts & (ran.refused == refused),
@@ -100,8 +114,7 @@ fn logged_of(logged: Logged, own: SequenceTracker) -> Ran {
     match logged {
         Logged::Done { table, tally } => Ran {
             table: table,
-            recorded: tally.recorded,
-            skipped: tally.skipped,
+            tally: tally,
             refused: 0,
         },
         Logged::Stopped {
@@ -111,14 +124,16 @@ fn logged_of(logged: Logged, own: SequenceTracker) -> Ran {
             tally,
         } => Ran {
             table: table,
-            recorded: tally.recorded,
-            skipped: tally.skipped,
-            refused: stopped_at(at, why, after(tally.recorded, tally.skipped)),
+            tally: tally,
+            refused: stopped_at(at, why, tally),
         },
         _ => Ran {
             table: own,
-            recorded: 0,
-            skipped: 0,
+            tally: Tally {
+                recorded: 0,
+                went_back: 0,
+                too_soon: 0,
+            },
             refused: UNEXPECTED,
         },
     }
@@ -136,12 +151,12 @@ pub fn run(b: &[u8], table: SequenceTracker, seqs: &mut [u64], secs: &mut [i64])
         lists::first_seqs(&from_seqs, n),
         lists::first_secs(&from_secs, n),
     );
-    ran_so(
-        logged_of(logged, table),
-        u32_at(b, 60),
-        u32_at(b, 64),
-        u8_at(b, 68),
-    )
+    let told = Tally {
+        recorded: u32_at(b, 60),
+        went_back: u32_at(b, 64),
+        too_soon: u32_at(b, 68),
+    };
+    ran_so(logged_of(logged, table), told, u8_at(b, 72))
 }
 
 // The last of n seconds, if any.
@@ -169,12 +184,12 @@ pub fn extended(b: &[u8], table: SequenceTracker, seqs: &mut [u64], secs: &mut [
     };
     let answer = log_pairs::extend_from(table, seqs, secs, other, &from_seqs, &from_secs);
     let at = 13 + 16 * n;
-    ran_so(
-        logged_of(answer, table),
-        u16_at(b, at),
-        u16_at(b, after(at, 2)),
-        u8_at(b, after(at, 4)),
-    )
+    let told = Tally {
+        recorded: u16_at(b, at),
+        went_back: u16_at(b, after(at, 2)),
+        too_soon: u16_at(b, after(at, 4)),
+    };
+    ran_so(logged_of(answer, table), told, u8_at(b, after(at, 6)))
 }
 
 // Whether a table has the settings of a record R, and the record the code of what restore answered.
