@@ -39,11 +39,12 @@ pub(crate) fn main(words: Vec<String>) -> i32 {
         bench::main(word == "time");
         return 0;
     }
-    // the Rust refuses an offer by a panic, which says nothing here
+    // the Rust refuses an offer by a panic, which says nothing here; any other ends the program
     std::panic::set_hook(Box::new(|panic| {
         let said = panic.to_string();
         if !said.contains("must be monotonic") {
             println!("{said}");
+            std::process::exit(1);
         }
     }));
     let (seed, rounds) = (number(&words, "seed", SEED), number(&words, "rounds", ROUNDS));
