@@ -1,9 +1,10 @@
-//! Lists of offers and `extend_from`: the numbers recorded and skipped, the refused position, the table afterwards.
+//! Lists of offers and `extend_from`: the numbers recorded and skipped, the refused position, the table afterwards. The number of each
+//! reason is judged by the rules (docs/RULES.md) alone.
 use super::super::*;
 use super::chance::Chance;
 use super::lent;
-use super::offers::{empty, second, sequence, shown, table_of, OK};
-use super::ours::{Answer, Table, TableAnswer};
+use super::offers::{comparable, empty, second, sequence, shown, table_of, OK};
+use super::ours::{Answer, Table, TableAnswer, NO_OFFERS};
 use super::refusals::{no_table, told};
 use super::tally::Tally;
 use super::theirs::{self, Offer};
@@ -28,28 +29,61 @@ impl Held {
 
 /// The records offered in order to the Rust's table, up to the first refusal.
 fn offered(t: &mut SequenceTracker, held: &mut Held, seqs: &[u64], secs: &[i64]) -> TableAnswer {
-    let (mut recorded, mut skipped, mut answer) = (0, 0, OK);
+    let (mut counts, mut answer) = (NO_OFFERS, OK);
     for (i, (&seq, &sec)) in seqs.iter().zip(secs).enumerate() {
         let stood = t.sequence_numbers.len();
-        match theirs::offer(t, seq, sec) {
-            Offer::Recorded => {
-                held.recorded(t, stood);
-                recorded += 1
-            }
-            Offer::Skipped => skipped += 1,
+        let outcome = theirs::offer(t, seq, sec);
+        counts = outcome.counted(counts);
+        match outcome {
+            Offer::Recorded => held.recorded(t, stood),
+            Offer::Skipped(_) => {}
             Offer::Refused => {
                 answer = Answer { number: 17, a: i as u64, b: 0, c: 0 };
                 break;
             }
         }
     }
-    TableAnswer { answer, recorded, skipped, state: theirs::state(t) }
+    TableAnswer { answer, tally: counts, state: theirs::state(t) }
 }
 
+/// The kinds of a list's answer: by how it ended, compared with the Rust, and by why offers were skipped, held to the rules.
+struct Kinds {
+    ended: &'static str,
+    stopped: &'static str,
+    went_back: &'static str,
+    too_soon: &'static str,
+    both: &'static str,
+}
+
+const LISTS: Kinds = Kinds {
+    ended: "lists of offers",
+    stopped: "lists of offers stopped, 17",
+    went_back: "lists of offers, some went back",
+    too_soon: "lists of offers, some too soon",
+    both: "lists of offers, some went back and some too soon",
+};
+
+const EXTENSIONS: Kinds = Kinds {
+    ended: "extensions from another table",
+    stopped: "extensions from another table stopped, 17",
+    went_back: "extensions from another table, some went back",
+    too_soon: "extensions from another table, some too soon",
+    both: "extensions from another table, some went back and some too soon",
+};
+
 /// Compares an answer and the arrays. Our table goes on from there.
-fn compare(tally: &mut Tally, kinds: [&'static str; 2], input: impl Fn() -> String, theirs: TableAnswer, held: Held, answer: TableAnswer, ours: &mut Table) {
-    let kind = kinds[(theirs.answer.number != 0) as usize];
-    tally.same(kind, &input, &theirs, &answer);
+fn compare(tally: &mut Tally, kinds: Kinds, input: impl Fn() -> String, theirs: TableAnswer, held: Held, answer: TableAnswer, ours: &mut Table) {
+    let kind = if theirs.answer.number == 0 { kinds.ended } else { kinds.stopped };
+    tally.same(kind, &input, &comparable(&theirs), &comparable(&answer));
+    let why = match (theirs.tally.went_back, theirs.tally.too_soon) {
+        (0, 0) => None,
+        (_, 0) => Some(kinds.went_back),
+        (0, _) => Some(kinds.too_soon),
+        _ => Some(kinds.both),
+    };
+    if let Some(why) = why {
+        tally.ruled(why, &input, &theirs.tally, &answer.tally);
+    }
     tally.holds(kind, &input, &(held.seqs, held.secs), &(ours.seqs.all(), ours.secs.all()));
     ours.state = answer.state;
 }
@@ -59,7 +93,7 @@ fn list(tally: &mut Tally, t: &mut SequenceTracker, ours: &mut Table, seqs: &[u6
     let theirs = offered(t, &mut held, seqs, secs);
     let answer = ours.offer_pairs(seqs, secs);
     let input = || format!("sequences {seqs:?} and seconds {secs:?} offered to {}", shown(&stood));
-    compare(tally, ["lists of offers", "lists of offers stopped, 17"], input, theirs, held, answer, ours);
+    compare(tally, LISTS, input, theirs, held, answer, ours);
 }
 
 fn extend(tally: &mut Tally, chance: &mut Chance, t: &mut SequenceTracker, ours: &mut Table) {
@@ -77,7 +111,7 @@ fn extend(tally: &mut Tally, chance: &mut Chance, t: &mut SequenceTracker, ours:
     tally.holds("the Rust's extend_from and its inserts", input, &(ended, shown(&extended)), &(theirs.answer.number == 0, shown(t)));
     let answer = ours.extend_from(&lent);
     tally.holds("the other table's arrays", input, &lent_before, &(lent.seqs.all(), lent.secs.all()));
-    compare(tally, ["extensions from another table", "extensions from another table stopped, 17"], input, theirs, held, answer, ours);
+    compare(tally, EXTENSIONS, input, theirs, held, answer, ours);
 }
 
 /// Rising sequences that mostly start at the table's last kept one.

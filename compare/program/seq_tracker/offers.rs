@@ -1,10 +1,11 @@
-//! Offers: recorded, skipped and refused, the pairs and the last recorded second after each, and halving.
+//! Offers: recorded, skipped and refused, the pairs and the last recorded second after each, and halving. Why an offer is skipped the
+//! Rust does not tell, so the rules (docs/RULES.md) alone judge it.
 use super::super::*;
 use super::chance::{Chance, FIRST_SECOND, LAST_SECOND};
 use super::lent::{self, holding};
-use super::ours::{self, Answer, Table, TableAnswer, NO_STATE};
+use super::ours::{self, Answer, State, Table, TableAnswer, NO_OFFERS, NO_STATE};
 use super::tally::Tally;
-use super::theirs::{self, Offer};
+use super::theirs::{self, Offer, Reason};
 
 pub const OK: Answer = Answer { number: 0, a: 0, b: 0, c: 0 };
 
@@ -21,6 +22,21 @@ pub fn shown(t: &SequenceTracker) -> String {
     format!("{t:?}")
 }
 
+/// What of an answer the Rust tells too: how many offers were skipped, and not why.
+#[derive(Debug, PartialEq)]
+pub struct Comparable {
+    answer: Answer,
+    recorded: usize,
+    skipped: u128,
+    state: State,
+}
+
+pub fn comparable(said: &TableAnswer) -> Comparable {
+    let counts = said.tally;
+    let skipped = counts.went_back as u128 + counts.too_soon as u128;
+    Comparable { answer: said.answer, recorded: counts.recorded, skipped, state: said.state }
+}
+
 /// One offer on both sides. The tables go on from what it leaves.
 pub fn offer(tally: &mut Tally, t: &mut SequenceTracker, ours: &mut Table, seq: u64, sec: i64) -> Offer {
     let stood = t.clone();
@@ -28,21 +44,26 @@ pub fn offer(tally: &mut Tally, t: &mut SequenceTracker, ours: &mut Table, seq: 
     let before = (ours.seqs.all(), ours.secs.all());
     let outcome = theirs::offer(t, seq, sec);
     let halved = outcome == Offer::Recorded && stood.sequence_numbers.len() + 1 > stood.capacity as usize;
-    let (kind, answer, recorded, skipped, state) = match outcome {
-        Offer::Recorded if halved => ("offers recorded, and the table halved", OK, 1, 0, theirs::state(t)),
-        Offer::Recorded => ("offers recorded", OK, 1, 0, theirs::state(t)),
-        Offer::Skipped => ("offers skipped", OK, 0, 1, theirs::state(t)),
-        Offer::Refused => ("offers refused, 17", Answer { number: 17, ..OK }, 0, 0, NO_STATE),
+    let (kind, answer, state) = match outcome {
+        Offer::Recorded if halved => ("offers recorded, and the table halved", OK, theirs::state(t)),
+        Offer::Recorded => ("offers recorded", OK, theirs::state(t)),
+        Offer::Skipped(_) => ("offers skipped", OK, theirs::state(t)),
+        Offer::Refused => ("offers refused, 17", Answer { number: 17, ..OK }, NO_STATE),
     };
+    let theirs = TableAnswer { answer, tally: outcome.counted(NO_OFFERS), state };
     let answered = ours.offer(seq, sec);
-    tally.same(kind, input, &TableAnswer { answer, recorded, skipped, state }, &answered);
+    tally.same(kind, input, &comparable(&theirs), &comparable(&answered));
+    if let Offer::Skipped(why) = outcome {
+        let kind = if why == Reason::WentBack { "offers skipped, went back" } else { "offers skipped, too soon" };
+        tally.ruled(kind, input, &theirs.tally, &answered.tally);
+    }
     let after = (ours.seqs.all(), ours.secs.all());
     match outcome {
         Offer::Recorded => {
             let now = (holding(&before.0, &t.sequence_numbers), holding(&before.1, &t.timestamps));
             tally.holds(kind, input, &now, &after);
         }
-        Offer::Skipped => tally.holds(kind, input, &before, &after),
+        Offer::Skipped(_) => tally.holds(kind, input, &before, &after),
         Offer::Refused => tally.kept(kind, input, &before, &after),
     }
     if outcome != Offer::Refused {
@@ -112,13 +133,13 @@ pub fn random(tally: &mut Tally, chance: &mut Chance) {
         let mut t = empty(chance);
         let mut ours = table_of(chance, &t);
         let made = ours::with_config(t.capacity, t.interval_secs);
-        tally.same("settings", || shown(&t), &TableAnswer { answer: OK, recorded: 0, skipped: 0, state: theirs::state(&t) }, &made);
+        tally.same("settings", || shown(&t), &TableAnswer { answer: OK, tally: NO_OFFERS, state: theirs::state(&t) }, &made);
         for _ in 0..chance.below(60) {
             let sec = second(chance, t.last_recorded_ts, t.interval_secs);
             let seq = sequence(chance, t.sequence_numbers.last().copied());
             offer(tally, &mut t, &mut ours, seq, sec);
         }
     }
-    let new = TableAnswer { answer: OK, recorded: 0, skipped: 0, state: theirs::state(&SequenceTracker::new()) };
+    let new = TableAnswer { answer: OK, tally: NO_OFFERS, state: theirs::state(&SequenceTracker::new()) };
     tally.same("settings", || "new".into(), &new, &ours::new());
 }

@@ -5,7 +5,11 @@ use super::lent::Lent;
 #[path = "../../../bindings/rust/src/sys.rs"]
 mod linked;
 
-pub use linked::{Answer, State, TableAnswer};
+/// What the library calls a tally has another name here, where a `Tally` counts comparisons.
+pub use linked::{Answer, State, TableAnswer, Tally as Counts};
+
+/// What is returned where no offer was made.
+pub const NO_OFFERS: Counts = Counts { recorded: 0, went_back: 0, too_soon: 0 };
 
 /// What is returned where there is no state: every call refuses it.
 pub const NO_STATE: State = State { count: 0, capacity: u32::MAX, has_last: 0, interval_secs: 0, last: 0 };

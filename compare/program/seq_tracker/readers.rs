@@ -2,7 +2,7 @@
 use super::super::*;
 use super::chance::{Chance, FIRST_SECOND, LAST_SECOND};
 use super::lent::{self, holding, Lent};
-use super::ours::{self, Answer, State, Table, TableAnswer, NO_STATE};
+use super::ours::{self, Answer, State, Table, TableAnswer, NO_OFFERS, NO_STATE};
 use super::tally::Tally;
 use super::theirs;
 use crate::utils::BitReader;
@@ -98,7 +98,7 @@ impl Lending {
     pub fn restore(&mut self, tally: &mut Tally, bytes: &[u8]) {
         let input = || format!("bytes {bytes:02x?}");
         let ours = Table::restore(bytes, &mut self.seqs, &mut self.secs);
-        let no_table = |number, a| TableAnswer { answer: refused(number, a), recorded: 0, skipped: 0, state: NO_STATE };
+        let no_table = |number, a| TableAnswer { answer: refused(number, a), tally: NO_OFFERS, state: NO_STATE };
         if let Some(array) = above_room(bytes, 8192) {
             tally.ruled("tables not restored, 10", input, &no_table(10, array), &ours);
             return self.kept(tally, "tables not restored, 10", bytes);
@@ -115,7 +115,7 @@ impl Lending {
                 }
                 None => {
                     let state = State { capacity: 8192, interval_secs: 60, ..theirs::state(&t) };
-                    let theirs = TableAnswer { answer: refused(0, 0), recorded: 0, skipped: 0, state };
+                    let theirs = TableAnswer { answer: refused(0, 0), tally: NO_OFFERS, state };
                     tally.same("tables restored", input, &theirs, &ours);
                     self.held = (holding(&self.held.0, &t.sequence_numbers), holding(&self.held.1, &t.timestamps));
                     tally.holds("tables restored", input, &self.held, &(self.seqs.all(), self.secs.all()));

@@ -2,17 +2,17 @@
 use super::chance::{Chance, FIRST_SECOND, LAST_SECOND};
 use super::lent;
 use super::offers::shown;
-use super::ours::{self, Answer, Table, TableAnswer, NO_STATE};
+use super::ours::{self, Answer, Table, TableAnswer, NO_OFFERS, NO_STATE};
 use super::readers::unfit;
 use super::tally::Tally;
-use super::theirs;
+use super::theirs::{self, Offer};
 
 pub fn told(number: u32, a: u64, b: u64) -> Answer {
     Answer { number, a, b, c: 0 }
 }
 
 pub fn no_table(answer: Answer) -> TableAnswer {
-    TableAnswer { answer, recorded: 0, skipped: 0, state: NO_STATE }
+    TableAnswer { answer, tally: NO_OFFERS, state: NO_STATE }
 }
 
 /// Refusals 14, 11, 12 and 13 of a table, as the rules have them.
@@ -103,9 +103,13 @@ fn settings_and_seconds(tally: &mut Tally, chance: &mut Chance) {
     let input = || format!("(9, {sec}) offered to {}", shown(&t));
     tally.ruled("offers refused, 16", input, &no_table(told(16, 0, 0)), &ours.offer(9, sec));
     tally.kept("offers refused, 16", input, &before, &(ours.seqs.all(), ours.secs.all()));
-    let stopped = TableAnswer { answer: told(16, 1, 0), recorded: 0, skipped: 1, state: ours.state };
-    tally.ruled("lists of offers stopped, 16", input, &stopped, &ours.offer_pairs(&[9, 9], &[7, sec]));
-    tally.kept("lists of offers stopped, 16", input, &before, &(ours.seqs.all(), ours.secs.all()));
+    for skipped in [5, 6, 7] {
+        let input = || format!("(9, {skipped}) and (9, {sec}) offered to {}", shown(&t));
+        let why = Offer::Skipped(theirs::reason(&t, skipped).expect("a second that is skipped"));
+        let stopped = TableAnswer { answer: told(16, 1, 0), tally: why.counted(NO_OFFERS), state: ours.state };
+        tally.ruled("lists of offers stopped, 16", input, &stopped, &ours.offer_pairs(&[9, 9], &[skipped, sec]));
+        tally.kept("lists of offers stopped, 16", input, &before, &(ours.seqs.all(), ours.secs.all()));
+    }
 }
 
 /// 18, 19, and 14 of a restore into too little room.

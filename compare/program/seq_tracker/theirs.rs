@@ -1,6 +1,6 @@
-//! The Rust's side: its answers in the numbers of the list of refusals (docs/RULES.md).
+//! The Rust's side: its answers in the numbers of the list of refusals (docs/RULES.md), and what it does not tell, why an offer was skipped.
 use super::super::*;
-use super::ours::State;
+use super::ours::{Counts, State};
 use std::panic::{catch_unwind, AssertUnwindSafe};
 
 pub fn instant(sec: i64) -> DateTime<Utc> {
@@ -28,15 +28,55 @@ pub fn state(t: &SequenceTracker) -> State {
 }
 
 #[derive(Clone, Copy, Debug, PartialEq, Eq)]
+pub enum Reason {
+    WentBack,
+    TooSoon,
+}
+
+/// Why a second is skipped, if it is. The Rust does not tell: this is the rule (docs/RULES.md), on the Rust's own last recorded second.
+pub fn reason(t: &SequenceTracker, sec: i64) -> Option<Reason> {
+    let last = t.last_recorded_ts?;
+    if sec < last {
+        return Some(Reason::WentBack);
+    }
+    let passed = sec as i128 - last as i128;
+    (passed < t.interval_secs as i128).then_some(Reason::TooSoon)
+}
+
+#[derive(Clone, Copy, Debug, PartialEq, Eq)]
 pub enum Offer {
     Recorded,
-    Skipped,
+    Skipped(Reason),
     Refused,
 }
 
-/// `insert`, with its outcome. It answers nothing, and a recorded pair need not show (capacity 0 and the same pair again), so
-/// the outcome is read off the same `insert` on a copy of the last pair that is not thinned.
+impl Offer {
+    /// The numbers with one offer more; a refused one is in none.
+    pub fn counted(self, so_far: Counts) -> Counts {
+        match self {
+            Offer::Recorded => Counts { recorded: so_far.recorded + 1, ..so_far },
+            Offer::Skipped(Reason::WentBack) => Counts { went_back: so_far.went_back + 1, ..so_far },
+            Offer::Skipped(Reason::TooSoon) => Counts { too_soon: so_far.too_soon + 1, ..so_far },
+            Offer::Refused => so_far,
+        }
+    }
+}
+
+/// What the Rust makes of an offer. Where it skips, the reason is added; it has to skip exactly where there is one.
 pub fn offer(t: &mut SequenceTracker, seq: u64, sec: i64) -> Offer {
+    let (why, last, interval) = (reason(t, sec), t.last_recorded_ts, t.interval_secs);
+    match (recorded(t, seq, sec), why) {
+        (Some(true), None) => Offer::Recorded,
+        (Some(false), Some(why)) => Offer::Skipped(why),
+        (None, None) => Offer::Refused,
+        (Some(false), None) => panic!("the Rust skips ({seq}, {sec}), which neither went back nor comes too soon: last recorded {last:?}, interval {interval}"),
+        (_, Some(why)) => panic!("the Rust does not skip ({seq}, {sec}), by the rules {why:?}: last recorded {last:?}, interval {interval}"),
+    }
+}
+
+/// `insert`: whether it recorded, and nothing where it refused. It answers nothing, and a recorded pair need not show (capacity 0
+/// and the same pair again), so the outcome is read off the same `insert` on a copy of the last pair that is not thinned.
+fn recorded(t: &mut SequenceTracker, seq: u64, sec: i64) -> Option<bool> {
     let pair = TrackedSeq { seq, ts: instant(sec) };
     let mut probe = SequenceTracker {
         sequence_numbers: t.sequence_numbers.last().copied().into_iter().collect(),
@@ -49,10 +89,10 @@ pub fn offer(t: &mut SequenceTracker, seq: u64, sec: i64) -> Offer {
     if catch_unwind(AssertUnwindSafe(|| probe.insert(pair))).is_err() {
         let refused = catch_unwind(AssertUnwindSafe(|| t.insert(pair)));
         assert!(refused.is_err());
-        return Offer::Refused;
+        return None;
     }
     t.insert(pair);
-    if probe.sequence_numbers.len() > stood { Offer::Recorded } else { Offer::Skipped }
+    Some(probe.sequence_numbers.len() > stood)
 }
 
 /// `extend_from`: whether it came to its end.
