@@ -53,6 +53,7 @@ pub(crate) fn main(words: Vec<String>) -> i32 {
     bits::exhaustive(&mut tally);
     readers::exhaustive(&mut tally);
     offers::exhaustive(&mut tally);
+    lists::exhaustive(&mut tally);
     for _ in 0..rounds {
         bits::random(&mut tally, &mut chance);
         encoders::random(&mut tally, &mut chance);

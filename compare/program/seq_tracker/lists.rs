@@ -1,10 +1,11 @@
 //! Lists of offers and `extend_from`: the numbers recorded and skipped, the refused position, the table afterwards. The number of each
 //! reason is judged by the rules (docs/RULES.md) alone.
 use super::super::*;
-use super::chance::Chance;
+use super::chance::{Chance, FIRST_SECOND, LAST_SECOND};
 use super::lent;
 use super::offers::{comparable, empty, second, sequence, shown, table_of, OK};
 use super::ours::{Answer, Table, TableAnswer, NO_OFFERS};
+use super::readers::unfit;
 use super::refusals::{no_table, told};
 use super::tally::Tally;
 use super::theirs::{self, Offer};
@@ -96,22 +97,70 @@ fn list(tally: &mut Tally, t: &mut SequenceTracker, ours: &mut Table, seqs: &[u6
     compare(tally, LISTS, input, theirs, held, answer, ours);
 }
 
-fn extend(tally: &mut Tally, chance: &mut Chance, t: &mut SequenceTracker, ours: &mut Table) {
-    let n = chance.index(12);
-    let (seqs, secs) = (rising_from(chance, t, n), chance.secs(n));
-    let capacity = n as u32 + chance.below(3) as u32;
-    let other = theirs::table(capacity, chance.below(100), &seqs, &secs);
-    let lent = table_of(chance, &other);
+fn extend(tally: &mut Tally, chance: &mut Chance, t: &mut SequenceTracker, ours: &mut Table, other: &SequenceTracker) {
+    let lent = table_of(chance, other);
     let lent_before = (lent.seqs.all(), lent.secs.all());
     let (stood, mut held) = (t.clone(), Held::by(ours));
-    let theirs = offered(t, &mut held, &seqs, &secs);
+    let theirs = offered(t, &mut held, &other.sequence_numbers, &other.timestamps);
     let mut extended = stood.clone();
-    let ended = theirs::extend_from(&mut extended, &other);
-    let input = || format!("{} extended from {}", shown(&stood), shown(&other));
+    let ended = theirs::extend_from(&mut extended, other);
+    let input = || format!("{} extended from {}", shown(&stood), shown(other));
     tally.holds("the Rust's extend_from and its inserts", input, &(ended, shown(&extended)), &(theirs.answer.number == 0, shown(t)));
     let answer = ours.extend_from(&lent);
     tally.holds("the other table's arrays", input, &lent_before, &(lent.seqs.all(), lent.secs.all()));
     compare(tally, EXTENSIONS, input, theirs, held, answer, ours);
+}
+
+/// Seconds at the limits of both reasons: the last recorded one, one and two intervals after it, and the one before each of these.
+fn limits(t: &SequenceTracker) -> Vec<i64> {
+    let last = t.last_recorded_ts.expect("a recorded second") as i128;
+    let after = |intervals: i128| last + intervals * t.interval_secs as i128;
+    let all = [last - 1, last, after(1) - 1, after(1), after(2) - 1, after(2)];
+    let mut secs = all.map(|s| s.clamp(FIRST_SECOND as i128, LAST_SECOND as i128) as i64).to_vec();
+    secs.sort();
+    secs.dedup();
+    secs
+}
+
+/// Every list of up to three offers that begins with these, of sequences about 5 and seconds at the limits: as a list and, where it is in
+/// order, as another table's pairs.
+fn every(tally: &mut Tally, chance: &mut Chance, t: &SequenceTracker, limits: &[i64], seqs: &[u64], secs: &[i64]) {
+    list(tally, &mut t.clone(), &mut table_of(chance, t), seqs, secs);
+    if unfit(seqs, secs).is_none() {
+        let mut ours = table_of(chance, t);
+        extend(tally, chance, &mut t.clone(), &mut ours, &theirs::table(3, 0, seqs, secs));
+    }
+    if seqs.len() == 3 {
+        return;
+    }
+    for seq in [4, 5, 6] {
+        for &sec in limits {
+            every(tally, chance, t, limits, &[seqs, &[seq]].concat(), &[secs, &[sec]].concat());
+        }
+    }
+}
+
+/// Tables whose last kept sequence is 5. All but those of the longest interval were halved last, so that at an odd capacity the last
+/// recorded second is not kept.
+pub fn exhaustive(tally: &mut Tally) {
+    let chance = &mut Chance::new(3);
+    for capacity in 0..5 {
+        for interval in [0, 1, 60, i64::MAX as u64] {
+            let mut t = SequenceTracker::with_config(capacity, interval);
+            for i in 0..=capacity as i64 {
+                theirs::offer(&mut t, 5, 60 * i);
+            }
+            every(tally, chance, &t, &limits(&t), &[], &[]);
+        }
+    }
+}
+
+/// Another table, about the pairs of this one.
+fn another(chance: &mut Chance, t: &SequenceTracker) -> SequenceTracker {
+    let n = chance.index(12);
+    let (seqs, secs) = (rising_from(chance, t, n), chance.secs(n));
+    let capacity = n as u32 + chance.below(3) as u32;
+    theirs::table(capacity, chance.below(100), &seqs, &secs)
 }
 
 /// Rising sequences that mostly start at the table's last kept one.
@@ -177,7 +226,8 @@ pub fn random(tally: &mut Tally, chance: &mut Chance) {
             list(tally, &mut t, &mut ours, &seqs, &secs);
             unequal(tally, chance, &t, &mut ours, seqs, secs);
             if chance.below(2) == 0 {
-                extend(tally, chance, &mut t, &mut ours);
+                let other = another(chance, &t);
+                extend(tally, chance, &mut t, &mut ours, &other);
             }
         }
     }
