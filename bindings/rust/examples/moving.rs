@@ -1,11 +1,16 @@
 // Before, with slatedb's src/seq_tracker.rs: use crate::seq_tracker::{FindOption, SequenceTracker, TrackedSeq};
-use skutlaneb::{FindOption, Second, Seq, SequenceTracker, TrackedSeq};
+use skutlaneb::{FindOption, Inserted, Second, Seq, SequenceTracker, TrackedSeq};
 
 fn main() -> Result<(), Box<dyn std::error::Error>> {
     let mut tracker = SequenceTracker::new();
     for (seq, second) in [(100, 0), (164, 60), (230, 125)] {
         // Where slatedb's `insert` panics, this one answers an error.
         tracker.insert(TrackedSeq { seq: Seq(seq), ts: Second(second) })?;
+    }
+
+    // Where slatedb's `insert` passes over a pair and says nothing, this one says why.
+    if tracker.insert(TrackedSeq { seq: Seq(231), ts: Second(65) })? == Inserted::WentBack {
+        println!("second 65 went back: is a clock behind?");
     }
 
     // `to_bytes` writes the same bytes as slatedb. `to_bytes_strict` does, too, but refuses pairs that they would bring back as other pairs.

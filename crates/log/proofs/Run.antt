@@ -13,11 +13,11 @@ use Rattle.tracker.specs.Table.{checkOf}
 use Rattle.tracker.specs.declared.TrackedSeq.{TrackedSeq}
 use Rattle.tracker.specs.declared.SequenceTracker.{SequenceTracker}
 use Rattle.offers.specs.Whole.{Table, whole, checkIn, Left, leaving, Leaves}
-use Rattle.offers.specs.Offer.{Outcome, recorded, skipped, offeredTo}
+use Rattle.offers.specs.Offer.{Outcome, recorded, wentBack, tooSoon, offeredTo}
 use Rattle.offers.proofs.Preserved.{stays-good}
-use Rattle.log.specs.Log.{Log, done, stopped, noneYet, counted, unless, runOf, logOf}
+use Rattle.log.specs.Log.{Log, done, stopped, noneYet, counted, total, unless, runOf, logOf}
 use Rattle.log.specs.Pairs.{pairOf}
-use Rattle.log.specs.Inner.{tells, stoppedAt, total, toldIn, toldProgress, leftBy, standing, endOf, goingOf, Begins, Steps}
+use Rattle.log.specs.Inner.{tells, stoppedAt, toldIn, toldProgress, leftBy, standing, endOf, goingOf, Begins, Steps}
 use Rattle.log.specs.declared.Tally.{Tally}
 use Rattle.log.specs.declared.inner.Phase.{Phase}
 use Rattle.log.specs.declared.inner.Phase.the-variants.{Going, Bad, Stopped}
@@ -55,6 +55,12 @@ from-one w n i r rs = go (tells w r)
     go : (o : Told Outcome) → let w′ = offeredTo w (r .seq) (r .ts) o in unless o (stoppedAt w n i) (runOf w′ (counted o n) (i + 1) rs) ≡ onward (unless o (stoppedAt w n i) (runOf w′ (counted o n) (i + 1) [])) (i + 1) rs
     go (gave _) = refl
     go (refused what) = refl
+
+-- an offer that is not refused counts once
+pub one-more : (o : Outcome) (n : Tally) → total (counted (gave o) n) ≡ total n + 1
+one-more (recorded t) n = omega arith
+one-more wentBack n = omega arith
+one-more tooSoon n = omega arith
 
 -- while a log goes on its table is good, each record before i was counted, and the end is the list's; else the end is 0
 abbrev pub Alive : Phase → Progress → List ℕ → List ℤ → ℕ → ℕ → Type 0
@@ -162,17 +168,13 @@ module _ {all : Leaving} {rs : List TrackedSeq} {p : Progress} {seqs : List ℕ}
         cut : drop i rs ≡ r ∷ drop (i + 1) rs
         cut = rw (is, add-one) (drop-cons rs i noRecord in-list)
 
-        one-more : (o : Outcome) → total (counted (gave o) (p .tally)) ≡ i + 1
-        one-more (recorded t) = omega (arith, live .total-is)
-        one-more skipped = omega (arith, live .total-is)
-
         stepped : (o : Told Outcome) → tells (standing p seqs secs) r ≡ o
             → leaving (gave (done (t .table) (t .tally))) (standing t seqs′ secs′)
             ≡ unless o (stoppedAt (standing p seqs secs) (p .tally) i) (let w = offeredTo (standing p seqs secs) (r .seq) (r .ts) o in leaving (gave (done (w .state) (counted o (p .tally)))) w)
             → (checkOf (t .table) seqs′ secs′ ≡ gave tt) × (total (t .tally) ≡ i + 1)
         stepped (gave o) f e =
             let s = stands t seqs′ secs′ (offeredTo (standing p seqs secs) (r .seq) (r .ts) (gave o)) (counted (gave o) (p .tally)) e in
-            (rw (s .table, s .seqs-are, s .secs-are) (stays-good (p .table) seqs secs (r .seq) (r .ts) (gave o) f (live .good)), ap total (s .tally) ∙ one-more o)
+            (rw (s .table, s .seqs-are, s .secs-are) (stays-good (p .table) seqs secs (r .seq) (r .ts) (gave o) f (live .good)), ap total (s .tally) ∙ one-more o (p .tally) ∙ ap (λ (k : ℕ). k + 1) (live .total-is))
         stepped (refused what) f e = not-stopped _ _ _ _ _ (ap (λ (l : Leaving). l .answer) e)
 
         go : (f : Phase) → leaving (toldIn f t) (standing t seqs′ secs′) ≡ runOf (standing p seqs secs) (p .tally) i (r ∷ []) → t .end ≡ endOf f (p .end) → Alive f t seqs′ secs′ (i + 1) (length rs)

@@ -2,7 +2,7 @@
 use mathlib.Core.Path.{_≡_, refl}
 use mathlib.Core.Bool.{cond}
 use mathlib.Core.List.{List, [], _∷_, _++_}
-use Prim.Native.Nat.{ℕ}
+use Prim.Native.Nat.{ℕ, _-_}
 use lib.Dec.{eqb}
 use lib.IntN.{ℤ}
 use lib.ListN.{length, getD}
@@ -14,9 +14,12 @@ use Rattle.tracker.proofs.Unique.{undone, refusalOf}
 use Rattle.offers.specs.Whole.{Left, Leaves}
 use Rattle.offers.proofs.Unique.{one-left}
 use Rattle.log.specs.Log.{Log, done, stopped, toldLog}
-use Rattle.log.proofs.Preserved.{lastTold}
 use Rattle.log.specs.declared.Logged.{Logged}
 use Rattle.log.specs.declared.Logged.the-variants.{Done, Stopped, Refused, OwnRefused, OtherRefused, LengthsDiffer}
+
+-- what is told last
+abbrev lastTold : List ℕ → ℕ
+lastTold l = getD l (length l - 1) 0
 
 -- a position told last, and the refusal before it
 last-back : (why : Refusal) (n : ℕ) → (refusalOf (told why ++ (n ∷ [])) ≡ why) × (lastTold (told why ++ (n ∷ [])) ≡ n)

@@ -1,6 +1,6 @@
 -- What our own functions promise each other. No public statement cites this file.
 -- How far a log is, for the functions that carry it from record to record.
-use Prim.Native.Nat.{ℕ, _+_}
+use Prim.Native.Nat.{ℕ}
 use mathlib.Core.Path.{_≡_}
 use mathlib.Core.List.{List, [], _∷_, _++_}
 use lib.IntN.{ℤ}
@@ -11,7 +11,7 @@ use Rattle.tracker.specs.declared.TrackedSeq.{TrackedSeq}
 use Rattle.tracker.specs.declared.SequenceTracker.{SequenceTracker}
 use Rattle.offers.specs.Whole.{Table, whole, Left, leaving}
 use Rattle.offers.specs.Offer.{Outcome, offerTo, offeredTo}
-use Rattle.log.specs.Log.{Log, done, stopped, runOf, logOf}
+use Rattle.log.specs.Log.{Log, done, stopped, total, runOf, logOf}
 use Rattle.log.specs.declared.Tally.{Tally}
 use Rattle.log.specs.declared.inner.Phase.{Phase}
 use Rattle.log.specs.declared.inner.Phase.the-variants.{Going, Bad, Stopped}
@@ -27,10 +27,6 @@ afterRecord w r = offeredTo w (r .seq) (r .ts) (tells w r)
 -- a log that a refusal of the record at i stops
 abbrev pub stoppedAt : Table → Tally → ℕ → List ℕ → Left (Told Log)
 stoppedAt w n i what = leaving (gave (stopped (what ++ (i ∷ [])) (w .state) n)) w
-
--- how many records a tally counts
-abbrev pub total : Tally → ℕ
-total n = n .recorded + n .skipped
 
 -- what the log tells if it ends here
 abbrev pub toldIn : Phase → Progress → Told Log

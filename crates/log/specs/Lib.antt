@@ -1,3 +1,4 @@
 pub mod Log
 pub mod Pairs
+pub mod Laws
 pub mod Inner

@@ -3,10 +3,13 @@ ghost use mathlib.Core.Path.{_≡_};
 ghost use Prim.Native.Nat.{_+_, _<_, _^_};
 ghost use Rattle.told.specs.Told.{gave};
 ghost use Rattle.tracker.specs.Table.{checkOf};
-ghost use Rattle.log.specs.Log.{toldLog};
-ghost use Rattle.log.specs.Inner.{total, toldProgress, goingOf, stoppedOf, Steps};
+ghost use Rattle.log.specs.Log.{total, toldLog};
+ghost use Rattle.log.specs.Inner.{toldProgress, goingOf, stoppedOf, Steps};
 use crate::Logged;
 use crate::Tally;
+pub use crate::tallies::counted;
+pub use crate::tallies::none_yet;
+pub use crate::tallies::total;
 use offers::Offered;
 use offers::inner as offer;
 use tracker::Refusal;
@@ -39,12 +42,12 @@ pub fn going(table: SequenceTracker, tally: Tally, end: usize) -> Progress
     }
 }
 
-// A log that a record has stopped. Those before it were recorded or skipped, so the two numbers give its position.
+// A log that a record has stopped. Those before it were counted, so their number is its position.
 fn stopped(table: SequenceTracker, tally: Tally, why: Refusal) -> Progress
     requires { ⌜ total tally < 2 ^ 64 ⌝ }
     ensures { λ r. ⌜ r ≡ stoppedOf table tally why ⌝ }
 {
-    let at = tally.recorded + tally.skipped;
+    let at = total(tally);
     Progress {
         table: table,
         tally: tally,
@@ -59,31 +62,13 @@ pub fn step(seqs: &mut [u64], secs: &mut [i64], p: Progress, pair: TrackedSeq) -
     ensures { λ r. ⌜ Steps p (now (seqs .entry)) (now (secs .entry)) pair r (now (seqs .exit)) (now (secs .exit)) ⌝ }
 {
     let table = p.table;
-    let tally = p.tally;
     let end = p.end;
-    match offer::offer_good(table, seqs, secs, pair.seq, pair.ts) {
-        Offered::Recorded(grown) => {
-            let recorded = tally.recorded + 1;
-            going(
-                grown,
-                Tally {
-                    recorded: recorded,
-                    skipped: tally.skipped,
-                },
-                end,
-            )
-        }
-        Offered::Skipped => {
-            let skipped = tally.skipped + 1;
-            going(
-                table,
-                Tally {
-                    recorded: tally.recorded,
-                    skipped: skipped,
-                },
-                end,
-            )
-        }
+    let offered = offer::offer_good(table, seqs, secs, pair.seq, pair.ts);
+    let tally = counted(p.tally, offered);
+    match offered {
+        Offered::Recorded(grown) => going(grown, tally, end),
+        Offered::WentBack => going(table, tally, end),
+        Offered::TooSoon => going(table, tally, end),
         Offered::Refused(why) => stopped(table, tally, why),
     }
 }

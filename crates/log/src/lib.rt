@@ -4,11 +4,15 @@ use tracker::Refusal;
 use tracker::SequenceTracker;
 
 pub mod inner; // inner.rt: a log record by record, for our own crates
+mod tallies; // tallies.rt: the numbers counted
 
-// The numbers recorded and skipped.
+// How many records were recorded, and how many skipped, by the reason: a second below the last recorded one, or not below it
+// but before the interval has passed. Programs in other languages get it as it is.
+#[repr(C)]
 pub struct Tally {
     pub recorded: usize,
-    pub skipped: usize,
+    pub went_back: usize,
+    pub too_soon: usize,
 }
 
 // What came of a log: all records offered; stopped at the record `at`, with the state as the offers before it left it; or

@@ -3,7 +3,6 @@ ghost use Rattle.offers.specs.Whole.{whole, Leaves};
 ghost use Rattle.log.specs.Log.{toldLog, logOf};
 ghost use Rattle.log.specs.Inner.{Begins};
 use log::Logged;
-use log::Tally;
 use log::inner as steps;
 use log::inner::Phase;
 use log::inner::Progress;
@@ -16,10 +15,7 @@ use tracker::check;
 fn begin(seqs: &mut [u64], secs: &mut [i64], table: SequenceTracker, n: usize) -> Progress
     ensures { λ r. ⌜ Begins (whole table (now (seqs .entry)) (now (secs .entry))) n r (now (seqs .exit)) (now (secs .exit)) ⌝ }
 {
-    let tally = Tally {
-        recorded: 0,
-        skipped: 0,
-    };
+    let tally = steps::none_yet();
     match check(table, seqs, secs) {
         Checked::Good => steps::going(table, tally, n),
         Checked::Refused(why) => Progress {

@@ -15,7 +15,7 @@ use Rattle.tracker.specs.declared.SequenceTracker.{SequenceTracker}
 use Rattle.tracker.proofs.Kept.{kept-at, check-kept}
 use Rattle.offers.specs.Whole.{whole}
 use Rattle.keeping.specs.Keep.{keptWith}
-use Rattle.offers.specs.Offer.{Outcome, recorded, skipped, lowSeq, offerTo, offeredTo}
+use Rattle.offers.specs.Offer.{Outcome, recorded, wentBack, tooSoon, lowSeq, offerTo, offeredTo}
 use Rattle.offers.proofs.Preserved.{taken, recorded-seqs, recorded-secs, same-lengths}
 
 -- two pairs of arrays that keep the same pairs of a table, and have the room that it needs
@@ -48,7 +48,8 @@ module _ (table : SequenceTracker) (seqs seqs′ : List ℕ) (secs secs′ : Lis
   -- and the arrays are alike afterwards
   pub alike-after : (o : Told Outcome) → offerTo (whole table seqs secs) seq ts ≡ o
       → let w = offeredTo (whole table seqs secs) seq ts o in let v = offeredTo (whole table seqs′ secs′) seq ts o in Alike (w .state) (w .seqs) (v .seqs) (w .secs) (v .secs)
-  alike-after (gave skipped) h = a
+  alike-after (gave wentBack) h = a
+  alike-after (gave tooSoon) h = a
   alike-after (refused what) h = a
   alike-after (gave (recorded t)) h =
       let h′ = sym alike-told ∙ h in

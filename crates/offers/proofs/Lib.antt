@@ -5,3 +5,4 @@ pub mod Preserved
 pub mod Alike
 pub mod Newest
 pub mod Unique
+pub mod Reasons

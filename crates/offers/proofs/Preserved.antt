@@ -3,12 +3,12 @@ use mathlib.Core.Path.{_≡_, refl, sym, ap, _∙_}
 use mathlib.Core.Logic.{⊎-elim}
 use mathlib.Core.Bool.{Bool, true, false, cond}
 use mathlib.Core.List.{List, [], _∷_}
-use Prim.Native.Nat.{ℕ, zero, suc, _-_, _≤_, _<_}
+use Prim.Native.Nat.{ℕ, _-_, _≤_, _<_}
 use native.Mathlib.Nat.{eq-or-lt-of-le, le-refl}
 use native.Mathlib.Omega.{arith}
-use borrow.Author.Tests.{lt-ltb, le-ltb, ne-eqb, eqb-true, ltb-true, not-false}
+use borrow.Author.Tests.{lt-ltb, le-ltb, ne-eqb, eqb-true, not-false}
 use lib.Dec.{eqb, ltb}
-use lib.IntN.{ℤ, pos, negsuc, _-ℤ_}
+use lib.IntN.{ℤ, pos}
 use lib.ListN.{length, getD}
 use lib.Seq.{take-at}
 use lib.Signed.{ltZ}
@@ -24,24 +24,15 @@ use Rattle.tracker.specs.declared.Second.{Second}
 use Rattle.tracker.specs.declared.SequenceTracker.{SequenceTracker}
 use Rattle.tracker.specs.declared.LastRecorded.{LastRecorded}
 use Rattle.tracker.specs.declared.LastRecorded.the-variants.{Never, At}
-use Rattle.order.proofs.Bools.{other, true-false, below-or, not-given, passed}
+use Rattle.order.proofs.Bools.{below-or, not-given, passed}
 use Rattle.tracker.proofs.Good.{Fine, fine, fine-again, room-is, count-seqs, count-secs}
 use Rattle.order.proofs.Order.{nat-order, int-order, further}
 use Rattle.offers.specs.Whole.{whole, checkIn}
 use Rattle.keeping.specs.Keep.{keptWith}
 use Rattle.keeping.specs.Inner.{countWith}
-use Rattle.offers.specs.Offer.{Outcome, recorded, skipped, tooSoon, lowSeq, stateWith, offerTo, offeredTo}
+use Rattle.offers.specs.Offer.{Outcome, recorded, wentBack, tooSoon, goesBack, comesTooSoon, lowSeq, stateWith, offerTo, offeredTo}
 use Rattle.keeping.proofs.Thinned.{appended-old, appended-new, thinned-length}
 use Rattle.offers.proofs.Rise.{over-length, selected, kept-sorted, kept-below}
-
--- a second below the last recorded one comes too soon, whatever the interval
-behind : (s l : ℤ) (k : ℕ) → ltZ s l ≡ true → ltZ (s -ℤ l) (pos k) ≡ true
-behind (pos a) (pos zero) k e = absurd (omega (arith, ltb-true a 0 e))
-behind (pos a) (pos (suc b)) k e = rw e
-behind (pos a) (negsuc b) k e = absurd (true-false false e refl)
-behind (negsuc a) (pos zero) k e = rw (lt-ltb 0 (suc a) (omega arith))
-behind (negsuc a) (pos (suc b)) k e = refl
-behind (negsuc a) (negsuc b) k e = rw (lt-ltb (suc b) (suc a) (omega (arith, ltb-true b a e)))
 
 -- the room takes what is kept, and something is kept
 count-fits : (cap n m : ℕ) → cap ≤ m → n ≤ m → 0 < m → (countWith cap n ≤ m) × (0 < countWith cap n)
@@ -51,10 +42,9 @@ count-fits cap n m c h p =
     (below-or n cap)
 
 -- the last kept second is not above the one offered
-after-last : (last : LastRecorded) (secs : List ℤ) (n interval : ℕ) (s : ℤ) → lastMisplaced last n ≡ false → lastBelow last secs n ≡ false → tooSoon last interval s ≡ false → 0 < n → ltZ s (getD secs (n - 1) (pos 0)) ≡ false
-after-last Never secs n interval s m b t p = absurd (omega (arith, eqb-true n 0 (not-false (eqb n 0) m)))
-after-last (At l) secs n interval s m b t p =
-    further ltZ int-order (getD secs (n - 1) (pos 0)) (l .0) s b (other (ltZ s (l .0)) (λ e. true-false (ltZ (s -ℤ l .0) (pos interval)) (behind s (l .0) interval e) t))
+after-last : (last : LastRecorded) (secs : List ℤ) (n : ℕ) (s : ℤ) → lastMisplaced last n ≡ false → lastBelow last secs n ≡ false → goesBack last s ≡ false → 0 < n → ltZ s (getD secs (n - 1) (pos 0)) ≡ false
+after-last Never secs n s m b t p = absurd (omega (arith, eqb-true n 0 (not-false (eqb n 0) m)))
+after-last (At l) secs n s m b t p = further ltZ int-order (getD secs (n - 1) (pos 0)) (l .0) s b t
 
 -- the last kept sequence is not above the one offered
 after-low : (seqs : List ℕ) (n q : ℕ) → lowSeq seqs n q ≡ false → 0 < n → ltb q (getD seqs (n - 1) 0) ≡ false
@@ -65,31 +55,34 @@ module _ (table : SequenceTracker) (seqs : List ℕ) (secs : List ℤ) (seq : Se
   pub record Taken (t : SequenceTracker) : Type 0 where
     pub good : checkOf table seqs secs ≡ gave tt
     pub inside : outside (ts .0) ≡ false
-    pub late : tooSoon (table .«last_recorded_ts») (table .«interval_secs») (ts .0) ≡ false
+    pub onward : goesBack (table .«last_recorded_ts») (ts .0) ≡ false
+    pub late : comesTooSoon (table .«last_recorded_ts») (table .«interval_secs») (ts .0) ≡ false
     pub rising : lowSeq seqs (table .count) (seq .0) ≡ false
     pub state : stateWith table (length (keptWith table seqs (seq .0))) ts ≡ t
 
   pub taken : (t : SequenceTracker) → offerTo (whole table seqs secs) seq ts ≡ gave (recorded t) → Taken t
   taken t h = go (checkOf table seqs secs) refl h
     where
-      not-skipped : (b : Bool) (next : Told Outcome) → cond b (gave skipped) next ≡ gave (recorded t) → (b ≡ false) × (next ≡ gave (recorded t))
-      not-skipped true next e = absurd (let z : _≡_ {A = ℕ} 0 1 = cc in omega arith)
-      not-skipped false next e = (refl, e)
+      not-skipped : (b : Bool) (o : Outcome) (next : Told Outcome) → (gave o ≡ gave (recorded t) → ⊥) → cond b (gave o) next ≡ gave (recorded t) → (b ≡ false) × (next ≡ gave (recorded t))
+      not-skipped true o next differ e = absurd (differ e)
+      not-skipped false o next differ e = (refl, e)
 
       go : (checked : Told (Unit {0})) → checkOf table seqs secs ≡ checked
           → ifGood checked
           (cond (outside (ts .0)) (refused (16 ∷ []))
-          (cond (tooSoon (table .«last_recorded_ts») (table .«interval_secs») (ts .0)) (gave skipped)
+          (cond (goesBack (table .«last_recorded_ts») (ts .0)) (gave wentBack)
+          (cond (comesTooSoon (table .«last_recorded_ts») (table .«interval_secs») (ts .0)) (gave tooSoon)
           (cond (lowSeq seqs (table .count) (seq .0)) (refused (17 ∷ []))
-          (gave (recorded (stateWith table (length (keptWith table seqs (seq .0))) ts))))))
+          (gave (recorded (stateWith table (length (keptWith table seqs (seq .0))) ts)))))))
           ≡ gave (recorded t)
           → Taken t
       go (refused what) e h = absurd (not-given what (recorded t) h)
       go (gave tt) e h =
           let h16 = passed (outside (ts .0)) (16 ∷ []) _ (recorded t) h in
-          let skip = not-skipped (tooSoon (table .«last_recorded_ts») (table .«interval_secs») (ts .0)) _ (h16 .1) in
-          let h17 = passed (lowSeq seqs (table .count) (seq .0)) (17 ∷ []) _ (recorded t) (skip .1) in
-          record { good = e; inside = h16 .0; late = skip .0; rising = h17 .0; state = cc (h17 .1) }
+          let back = not-skipped (goesBack (table .«last_recorded_ts») (ts .0)) wentBack _ (λ e. let z : _≡_ {A = ℕ} 0 1 = cc e in omega arith) (h16 .1) in
+          let soon = not-skipped (comesTooSoon (table .«last_recorded_ts») (table .«interval_secs») (ts .0)) tooSoon _ (λ e. let z : _≡_ {A = ℕ} 0 1 = cc e in omega arith) (back .1) in
+          let h17 = passed (lowSeq seqs (table .count) (seq .0)) (17 ∷ []) _ (recorded t) (soon .1) in
+          record { good = e; inside = h16 .0; onward = back .0; late = soon .0; rising = h17 .0; state = cc (h17 .1) }
 
   -- what each array holds of the pair, and how many
   module _ (t : SequenceTracker) (k : Taken t) where
@@ -126,7 +119,7 @@ module _ (table : SequenceTracker) (seqs : List ℕ) (secs : List ℤ) (seq : Se
     secs-length = over-length (keptWith table secs (ts .0)) secs (omega (arith, secs-kept, room .0, f .state .fit-secs))
 
     not-above : 0 < table .count → ltZ (ts .0) (getD secs (table .count - 1) (pos 0)) ≡ false
-    not-above = after-last (table .«last_recorded_ts») secs (table .count) (table .«interval_secs») (ts .0) (f .state .last-placed) (f .state .last-above) (k .late)
+    not-above = after-last (table .«last_recorded_ts») secs (table .count) (ts .0) (f .state .last-placed) (f .state .last-above) (k .onward)
 
     all-inside : (j : ℕ) → j < m → secOutside (over (keptWith table secs (ts .0)) secs) j ≡ false
     unfolding m
@@ -187,12 +180,14 @@ module _ (table : SequenceTracker) (seqs : List ℕ) (secs : List ℤ) (seq : Se
   pub stays-good : (o : Told Outcome) → offerTo (whole table seqs secs) seq ts ≡ o → checkOf table seqs secs ≡ gave tt
       → checkIn (offeredTo (whole table seqs secs) seq ts o) ≡ gave tt
   stays-good (gave (recorded t)) h g = recorded-good t h
-  stays-good (gave skipped) h g = g
+  stays-good (gave wentBack) h g = g
+  stays-good (gave tooSoon) h g = g
   stays-good (refused what) h g = g
 
   -- and the arrays have kept their lengths
   pub same-lengths : (o : Told Outcome) → offerTo (whole table seqs secs) seq ts ≡ o
       → (length (offeredTo (whole table seqs secs) seq ts o .seqs) ≡ length seqs) × (length (offeredTo (whole table seqs secs) seq ts o .secs) ≡ length secs)
   same-lengths (gave (recorded t)) h = (seqs-length t (taken t h), secs-length t (taken t h))
-  same-lengths (gave skipped) h = (refl, refl)
+  same-lengths (gave wentBack) h = (refl, refl)
+  same-lengths (gave tooSoon) h = (refl, refl)
   same-lengths (refused what) h = (refl, refl)

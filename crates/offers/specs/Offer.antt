@@ -18,23 +18,30 @@ use Rattle.tracker.specs.declared.LastRecorded.the-variants.{Never, At}
 use Rattle.keeping.specs.Keep.{keptWith}
 use Rattle.offers.specs.Whole.{Table, whole, checkIn, Left, leaving}
 use Rattle.offers.specs.declared.Offered.{Offered}
-use Rattle.offers.specs.declared.Offered.the-variants.{Recorded, Skipped, Refused}
+use Rattle.offers.specs.declared.Offered.the-variants.{Recorded, WentBack, TooSoon, Refused}
 
--- an offer that is not refused: recorded, with the table's new state, or skipped
+-- an offer that is not refused: recorded, with the table's new state, or skipped, for one of two reasons
 pub data Outcome : Type 0 where
   recorded : SequenceTracker → Outcome
-  skipped : Outcome
+  wentBack : Outcome
+  tooSoon : Outcome
 
 -- what `offer` tells
 abbrev pub toldOffer : Offered → Told Outcome
 toldOffer (Recorded t) = gave (recorded t)
-toldOffer Skipped = gave skipped
+toldOffer WentBack = gave wentBack
+toldOffer TooSoon = gave tooSoon
 toldOffer (Refused r) = refused (told r)
 
--- a second was recorded before and this second minus it is below the interval
-abbrev pub tooSoon : LastRecorded → ℕ → ℤ → Bool
-tooSoon Never interval s = false
-tooSoon (At last) interval s = ltZ (s -ℤ last .0) (pos interval)
+-- went back: a second was recorded before, and the offered one is below it
+abbrev pub goesBack : LastRecorded → ℤ → Bool
+goesBack Never s = false
+goesBack (At last) s = ltZ s (last .0)
+
+-- too soon: it is not below it, but the difference is under the interval
+abbrev pub comesTooSoon : LastRecorded → ℕ → ℤ → Bool
+comesTooSoon Never interval s = false
+comesTooSoon (At last) interval s = not (goesBack (At last) s) && ltZ (s -ℤ last .0) (pos interval)
 
 -- a sequence below the last kept one, of n
 abbrev pub lowSeq : List ℕ → ℕ → ℕ → Bool
@@ -44,20 +51,22 @@ lowSeq seqs n q = not (eqb n 0) && ltb q (getD seqs (n - 1) 0)
 abbrev pub stateWith : SequenceTracker → ℕ → Second → SequenceTracker
 stateWith table count ts = record { count = count; capacity = table .capacity; «interval_secs» = table .«interval_secs»; «last_recorded_ts» = At ts }
 
--- what `offer` tells: 14, 11, 12, 13; then 16, the skip, 17; else the pair is recorded
+-- what `offer` tells: 14, 11, 12, 13; then 16, the skip with its reason, 17; else the pair is recorded
 abbrev pub offerTo : Table → Seq → Second → Told Outcome
 offerTo w seq ts =
     ifGood (checkIn w)
     (cond (outside (ts .0)) (refused (16 ∷ []))
-    (cond (tooSoon (w .state .«last_recorded_ts») (w .state .«interval_secs») (ts .0)) (gave skipped)
+    (cond (goesBack (w .state .«last_recorded_ts») (ts .0)) (gave wentBack)
+    (cond (comesTooSoon (w .state .«last_recorded_ts») (w .state .«interval_secs») (ts .0)) (gave tooSoon)
     (cond (lowSeq (w .seqs) (w .state .count) (seq .0)) (refused (17 ∷ []))
-    (gave (recorded (stateWith (w .state) (length (keptWith (w .state) (w .seqs) (seq .0))) ts))))))
+    (gave (recorded (stateWith (w .state) (length (keptWith (w .state) (w .seqs) (seq .0))) ts)))))))
 
 -- the table after an offer that tells this: recorded, each array holds what is kept, and past it what stood there; else it is as it was
 abbrev pub offeredTo : Table → Seq → Second → Told Outcome → Table
 offeredTo w seq ts (gave (recorded t)) =
     whole t (over (keptWith (w .state) (w .seqs) (seq .0)) (w .seqs)) (over (keptWith (w .state) (w .secs) (ts .0)) (w .secs))
-offeredTo w seq ts (gave skipped) = w
+offeredTo w seq ts (gave wentBack) = w
+offeredTo w seq ts (gave tooSoon) = w
 offeredTo w seq ts (refused what) = w
 
 -- an offer: what it tells and leaves

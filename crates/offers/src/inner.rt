@@ -32,8 +32,11 @@ pub fn offer_good(
         return Offered::Refused(Refusal::OfferedOutside);
     }
     let last = table.last_recorded_ts;
+    if steps::went_back(last, s) {
+        return Offered::WentBack;
+    }
     if steps::too_soon(last, table.interval_secs, s) {
-        return Offered::Skipped;
+        return Offered::TooSoon;
     }
     let n = table.count;
     if steps::low_seq(seqs, n, q) {

@@ -1,4 +1,4 @@
-// One offer to a table: a pair is recorded, skipped or refused.
+// One offer to a table: a pair is recorded, skipped, with the reason, or refused.
 ghost use Rattle.offers.specs.Whole.{whole, Leaves};
 ghost use Rattle.offers.specs.Offer.{toldOffer, offering};
 use tracker::Checked;
@@ -13,7 +13,8 @@ mod steps;
 
 pub enum Offered {
     Recorded(SequenceTracker),
-    Skipped,
+    WentBack,
+    TooSoon,
     Refused(Refusal),
 }
 

@@ -3,7 +3,7 @@ use Prim.Native.Nat.{ℕ}
 use mathlib.Core.List.{List, [], _∷_}
 use Rattle.told.specs.Told.{Told, gave, refused}
 use Rattle.tracker.specs.declared.SequenceTracker.{SequenceTracker}
-use Rattle.offers.specs.Offer.{Outcome, recorded, skipped}
+use Rattle.offers.specs.Offer.{Outcome, recorded, wentBack, tooSoon}
 use Rattle.log.specs.Log.{Log, done, stopped, noneYet, counted}
 use Rattle.log.specs.declared.Tally.{Tally}
 use Rattle.answers.specs.Answer.{answerOf}
@@ -11,19 +11,20 @@ use Rattle.states.specs.State.{stateOf, noState}
 use Rattle.states.specs.declared.State.{State}
 use Rattle.table_answers.specs.declared.TableAnswer.{TableAnswer}
 
--- what is answered, the numbers recorded and skipped, and the state
+-- what is answered, how many were recorded, went back and came too soon, and the state
 abbrev pub tableAnswerOf : List ℕ → Tally → State → TableAnswer
-tableAnswerOf l n s = record { answer = answerOf l; recorded = n .recorded; skipped = n .skipped; state = s }
+tableAnswerOf l n s = record { answer = answerOf l; tally = n; state = s }
 
 -- a table that is made or restored; refused, there is no state
 abbrev pub ofTable : Told SequenceTracker → TableAnswer
 ofTable (gave t) = tableAnswerOf (0 ∷ []) noneYet (stateOf t)
 ofTable (refused what) = tableAnswerOf what noneYet noState
 
--- an offer to a table: the state after it, and 1 recorded or 1 skipped
+-- an offer to a table: the state after it, and 1 that was recorded, went back or came too soon
 abbrev pub ofOffer : SequenceTracker → Told Outcome → TableAnswer
 ofOffer t (gave (recorded grown)) = tableAnswerOf (0 ∷ []) (counted (gave (recorded grown)) noneYet) (stateOf grown)
-ofOffer t (gave skipped) = tableAnswerOf (0 ∷ []) (counted (gave skipped) noneYet) (stateOf t)
+ofOffer t (gave wentBack) = tableAnswerOf (0 ∷ []) (counted (gave wentBack) noneYet) (stateOf t)
+ofOffer t (gave tooSoon) = tableAnswerOf (0 ∷ []) (counted (gave tooSoon) noneYet) (stateOf t)
 ofOffer t (refused what) = tableAnswerOf what noneYet noState
 
 -- a list of offers: all offered; stopped at a record, with the state that the offers before it left; or refused

@@ -10,7 +10,8 @@ use crate::refusals;
 use crate::tables;
 use answers::inner::answer;
 use log::Logged;
-use log::Tally;
+use log::inner::counted;
+use log::inner::none_yet;
 use offers::Offered;
 use restoring::Restored;
 use tracker::Made;
@@ -28,23 +29,11 @@ pub fn of_made(made: Made) -> TableAnswer
 pub fn of_offered(table: SequenceTracker, offered: Offered) -> TableAnswer
     ensures { λ r. ⌜ r ≡ ofOffer table (toldOffer offered) ⌝ }
 {
+    let tally = counted(none_yet(), offered);
     match offered {
-        Offered::Recorded(grown) => tables::with_table(
-            answer(0, 0, 0, 0),
-            grown,
-            Tally {
-                recorded: 1,
-                skipped: 0,
-            },
-        ),
-        Offered::Skipped => tables::with_table(
-            answer(0, 0, 0, 0),
-            table,
-            Tally {
-                recorded: 0,
-                skipped: 1,
-            },
-        ),
+        Offered::Recorded(grown) => tables::with_table(answer(0, 0, 0, 0), grown, tally),
+        Offered::WentBack => tables::with_table(answer(0, 0, 0, 0), table, tally),
+        Offered::TooSoon => tables::with_table(answer(0, 0, 0, 0), table, tally),
         Offered::Refused(why) => tables::no_table(answers::inner::of_table(why)),
     }
 }

@@ -6,13 +6,13 @@ mod refusals; // refusals.rt: a refusal in a list of offers
 mod tables; // tables.rt: with a table's state, and with none
 
 use answers::Answer;
+use log::Tally;
 use states::State;
 
 // What a call answers that gives a state: where it gives none, `state` is one that every call refuses.
 #[repr(C)]
 pub struct TableAnswer {
     pub answer: Answer,
-    pub recorded: u64,
-    pub skipped: u64,
+    pub tally: Tally,
     pub state: State,
 }

@@ -8,17 +8,17 @@ use crate::TableAnswer;
 use answers::Answer;
 use answers::inner::answer;
 use log::Tally;
+use log::inner::none_yet;
 use tracker::SequenceTracker;
 
-// With a table's state and the numbers recorded and skipped.
+// With a table's state, and what the offers came to.
 pub fn with_table(answer: Answer, table: SequenceTracker, tally: Tally) -> TableAnswer
-    ensures { λ r. ⌜ r ≡ record { answer = answer; recorded = tally .recorded; skipped = tally .skipped; state = stateOf table } ⌝ }
+    ensures { λ r. ⌜ r ≡ record { answer = answer; tally = tally; state = stateOf table } ⌝ }
 {
     let state = states::inner::state_of(table);
     TableAnswer {
         answer: answer,
-        recorded: tally.recorded as u64,
-        skipped: tally.skipped as u64,
+        tally: tally,
         state: state,
     }
 }
@@ -27,25 +27,17 @@ pub fn with_table(answer: Answer, table: SequenceTracker, tally: Tally) -> Table
 pub fn fresh(table: SequenceTracker) -> TableAnswer
     ensures { λ r. ⌜ r ≡ tableAnswerOf (0 ∷ []) noneYet (stateOf table) ⌝ }
 {
-    with_table(
-        answer(0, 0, 0, 0),
-        table,
-        Tally {
-            recorded: 0,
-            skipped: 0,
-        },
-    )
+    with_table(answer(0, 0, 0, 0), table, none_yet())
 }
 
 // Refused, with a state that every call refuses.
 pub fn no_table(answer: Answer) -> TableAnswer
-    ensures { λ r. ⌜ r ≡ record { answer = answer; recorded = 0; skipped = 0; state = noState } ⌝ }
+    ensures { λ r. ⌜ r ≡ record { answer = answer; tally = noneYet; state = noState } ⌝ }
 {
     let state = states::inner::no_state();
     TableAnswer {
         answer: answer,
-        recorded: 0,
-        skipped: 0,
+        tally: none_yet(),
         state: state,
     }
 }

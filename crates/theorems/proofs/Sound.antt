@@ -14,7 +14,7 @@ use Rattle.tracker.specs.declared.Seq.{Seq}
 use Rattle.tracker.specs.declared.Second.{Second}
 use Rattle.tracker.specs.declared.SequenceTracker.{SequenceTracker}
 use Rattle.tracker.proofs.Good.{Agreed, fine, count-seqs}
-use Rattle.offers.specs.Offer.{Outcome, recorded, skipped, offerTo, offeredTo}
+use Rattle.offers.specs.Offer.{Outcome, recorded, wentBack, tooSoon, offerTo, offeredTo}
 use Rattle.offers.proofs.Preserved.{taken, stays-good, recorded-count}
 use Rattle.offers.proofs.Alike.{Alike, alike-told, alike-after}
 use Rattle.offers.proofs.Newest.{newest-sec}
@@ -65,7 +65,8 @@ module _ (w : Table) (S : Sound w) where
       where
         go : (told : Told Outcome) → offerTo w seq ts ≡ told → Sound (offeredTo w seq ts told)
         go (gave (recorded t)) e = recorded-sound t e
-        go (gave skipped) e = S
+        go (gave wentBack) e = S
+        go (gave tooSoon) e = S
         go (refused what) e = S
 
 module _ (w v : Table) (M : Same w v) (seq : Seq) (ts : Second) where
@@ -77,7 +78,8 @@ module _ (w v : Table) (M : Same w v) (seq : Seq) (ts : Second) where
     where
       go : (o : Told Outcome) → offeredTo w seq ts o .state ≡ offeredTo (whole (w .state) (v .seqs) (v .secs)) seq ts o .state
       go (gave (recorded t)) = refl
-      go (gave skipped) = refl
+      go (gave wentBack) = refl
+      go (gave tooSoon) = refl
       go (refused what) = refl
 
 -- a new table

@@ -19,8 +19,8 @@ use Rattle.tracker.specs.declared.LastRecorded.the-variants.{At}
 use Rattle.lookup.specs.Find.{Partner, partner, nothing, findTs}
 use Rattle.lookup.specs.declared.FindOption.{FindOption}
 use Rattle.lookup.specs.declared.FindOption.the-variants.{RoundUp, RoundDown}
-use Rattle.offers.specs.Offer.{skipped, offerTo}
-use Rattle.log.specs.Log.{stopped, logOf}
+use Rattle.offers.specs.Offer.{Outcome, wentBack, tooSoon, offerTo}
+use Rattle.log.specs.Log.{done, stopped, logOf}
 use Rattle.encoder.specs.Encode.{lenRule, encodeRule, strictRule}
 use Rattle.decoder.specs.Decode.{decodeRule, seqsAfter, secsAfter}
 use Rattle.offers.specs.Whole.{Table}
@@ -84,9 +84,9 @@ DecodeTells room bytes told = decodeRule bytes (lent room .seqs) (lent room .sec
 abbrev pub Keeps : Table → List TrackedSeq → ℕ → Type 0
 Keeps w l last = (keptIn w ≡ pairsIn l) × (w .state .«last_recorded_ts» ≡ At (second last))
 
--- one more offer is skipped
-abbrev pub Skips : Table → TrackedSeq → Type 0
-Skips w r = offerTo w (r .seq) (r .ts) ≡ gave skipped
+-- one more offer is skipped, for this reason
+abbrev pub Skips : Outcome → Table → TrackedSeq → Type 0
+Skips reason w r = offerTo w (r .seq) (r .ts) ≡ gave reason
 
 -- `find_ts` of a sequence
 abbrev pub Finds : Table → ℕ → FindOption → Partner Second → Type 0
@@ -127,22 +127,30 @@ pub record Cases : Type 0 where
   pub P7 : (subS (subS (signed 18446744073709551615) (signed 0)) (pos 0) ≡ negℤ (pos 1)) × (length (codeBits (negℤ (pos 1))) ≡ 9) × (strictRule (0 ∷ 18446744073709551615 ∷ []) (pos 0 ∷ pos 0 ∷ []) 64 ≡ gave 32)
   -- capacity 4, interval 0, (1,10),(2,20),(3,30),(4,40),(5,50): (1,10),(3,30),(5,50)
   pub P8 : Keeps (offeredAll 4 0 (firstOf 5)) (pair 1 10 ∷ pair 3 30 ∷ pair 5 50 ∷ []) 50
-  -- capacity 3, first four: (1,10),(3,30), last recorded 40; then (3,45) is recorded and (9,39), offered instead, skipped
+  -- capacity 3, first four: (1,10),(3,30), last recorded 40; then (3,45) is recorded and (9,39), offered instead, went back
   pub P9 :
       Keeps (offeredAll 3 0 (firstOf 4)) (pair 1 10 ∷ pair 3 30 ∷ []) 40
       × Keeps (offeredAll 3 0 (firstOf 4 ++ (pair 3 45 ∷ []))) (pair 1 10 ∷ pair 3 30 ∷ pair 3 45 ∷ []) 45
-      × Skips (offeredAll 3 0 (firstOf 4)) (pair 9 39)
+      × Skips wentBack (offeredAll 3 0 (firstOf 4)) (pair 9 39)
   -- capacity 0, first two: (1,10), last recorded 20
   pub P10 : Keeps (offeredAll 0 0 (firstOf 2)) (pair 1 10 ∷ []) 20
-  -- interval 60 after 100: 159 and 99 skipped, 160 recorded
+  -- interval 60 after 100: 159 too soon, 99 went back, 160 recorded
   pub P11 :
-      Skips (offeredAll 8192 60 (pair 1 100 ∷ [])) (pair 2 159)
-      × Skips (offeredAll 8192 60 (pair 1 100 ∷ [])) (pair 2 99)
+      Skips tooSoon (offeredAll 8192 60 (pair 1 100 ∷ [])) (pair 2 159)
+      × Skips wentBack (offeredAll 8192 60 (pair 1 100 ∷ [])) (pair 2 99)
       × Keeps (offeredAll 8192 60 (pair 1 100 ∷ pair 2 160 ∷ [])) (pair 1 100 ∷ pair 2 160 ∷ []) 160
-  -- offered in order up to the first refusal: (4,160) after (5,100), recorded, and (6,159), skipped, is refused with 17 at position 2
+  -- the second equal to the last recorded one: too soon at interval 1, recorded at 0
+  pub again :
+      Skips tooSoon (offeredAll 4 1 (pair 1 100 ∷ [])) (pair 2 100)
+      × Keeps (offeredAll 4 0 (pair 1 100 ∷ pair 2 100 ∷ [])) (pair 1 100 ∷ pair 2 100 ∷ []) 100
+  -- offered in order up to the first refusal: (4,160) after (5,100), recorded, and (6,159), too soon, is refused with 17 at position 2
   pub log :
       logOf (offeredAll 4 60 []) (pair 5 100 ∷ pair 6 159 ∷ pair 4 160 ∷ pair 6 170 ∷ []) .answer
-      ≡ gave (stopped (17 ∷ 2 ∷ []) (freshTable 4 60 1 (At (second 100))) (record { recorded = 1; skipped = 1 }))
+      ≡ gave (stopped (17 ∷ 2 ∷ []) (freshTable 4 60 1 (At (second 100))) (record { recorded = 1; «went_back» = 0; «too_soon» = 1 }))
+  -- counted apart: (5,100) and (6,160), recorded, (6,159), too soon, and (6,99), (4,98), (7,0), went back
+  pub tally :
+      logOf (offeredAll 4 60 []) (pair 5 100 ∷ pair 6 99 ∷ pair 6 159 ∷ pair 4 98 ∷ pair 6 160 ∷ pair 7 0 ∷ []) .answer
+      ≡ gave (done (freshTable 4 60 2 (At (second 160))) (record { recorded = 2; «went_back» = 3; «too_soon» = 1 }))
   -- in P8's table sequence 2: up 30, down 10; 6 up and 0 down: nothing
   pub P12 :
       Finds (offeredAll 4 0 (firstOf 5)) 2 RoundUp (partner (second 30))

@@ -1,30 +1,41 @@
--- A list of offers leaves what its records leave when they are offered one by one: so the third demand, whose runs have single offers, is of tables that
--- lists made too.
-use Prim.Native.Nat.{ℕ, _+_}
+-- A list of offers leaves what its records leave when they are offered one by one, and counts what they are told: so the third demand, whose runs have single
+-- offers, is of tables that lists made too.
+use Prim.Native.Nat.{ℕ}
 use mathlib.Core.Path.{_≡_}
-use mathlib.Core.List.{List, map}
+use mathlib.Core.List.{List, [], _∷_, map}
 use lib.ListN.{take}
 use lib.IntN.{ℤ}
 use Rattle.told.specs.Told.{Told, gave, refused}
 use Rattle.tracker.specs.declared.TrackedSeq.{TrackedSeq}
 use Rattle.offers.specs.Whole.{Table, Left}
-use Rattle.log.specs.Log.{Log, done, stopped, logOf}
+use Rattle.offers.specs.Offer.{Outcome}
+use Rattle.log.specs.declared.Tally.{Tally}
+use Rattle.log.specs.Log.{Log, done, stopped, noneYet, counted, total, logOf}
 use Rattle.log.specs.Pairs.{recordsOf, pairsLogOf, extendOf}
-use Rattle.theorems.specs.Run.{Event, offered, ranTo, keptIn}
+use Rattle.theorems.specs.Run.{Event, offered, ranTo, answers, keptIn}
 
 -- records as offers one by one
 abbrev pub offersOf : List TrackedSeq → List Event
 offersOf rs = map (λ r. offered (r .seq) (r .ts)) rs
 
--- how many records a list counted, recorded and skipped: all of them, or those before the refused one
-abbrev pub countedIn : Told Log → ℕ
-countedIn (gave (done t n)) = n .recorded + n .skipped
-countedIn (gave (stopped what t n)) = n .recorded + n .skipped
-countedIn (refused what) = 0
+-- how many records a list recorded, how many went back and how many came too soon
+abbrev pub tallyIn : Told Log → Tally
+tallyIn (gave (done t n)) = n
+tallyIn (gave (stopped what t n)) = n
+tallyIn (refused what) = noneYet
 
--- what is left is what as many of the records leave, offered one by one
+-- how many of these answers are of each kind
+unfoldable pub tallied : List (Told Outcome) → Tally
+tallied [] = noneYet
+tallied (o ∷ os) = counted o (tallied os)
+
+-- the records that a list counted: all of them, or those before the refused one
+abbrev pub countedOf : List TrackedSeq → Told Log → List Event
+countedOf rs told = offersOf (take (total (tallyIn told)) rs)
+
+-- offered one by one they leave the same table, and the list's numbers are those of their answers
 abbrev pub OneByOne : Table → List TrackedSeq → Left (Told Log) → Type 0
-OneByOne w rs l = l .table ≡ ranTo w (offersOf (take (countedIn (l .answer)) rs))
+OneByOne w rs l = (l .table ≡ ranTo w (countedOf rs (l .answer))) × (tallyIn (l .answer) ≡ tallied (answers w (countedOf rs (l .answer))))
 
 -- of a list of records, of two lists, and of another table's pairs
 abbrev pub ListsAreOffers : Type 0

@@ -60,8 +60,8 @@ fn is_counted(kind: u8, b: &[u8]) -> bool {
         b'V' | b'T' => b.len() == 12,
         b'F' | b'K' => b.len() == 10 + 8 * u8_at(b, 9),
         b'O' => b.len() == 17,
-        b'G' => (u32_at(b, 0) <= MOST) & (b.len() == 69),
-        b'X' => is_listed(b, u8_at(b, 12), 18),
+        b'G' => (u32_at(b, 0) <= MOST) & (b.len() == 73),
+        b'X' => is_listed(b, u8_at(b, 12), 20),
         b'R' => b.len() >= 14,
         _ => is_whole_codec(kind, b),
     }

@@ -4,6 +4,9 @@ use Rattle.log.specs.Log.{runOf}
 use Rattle.log_records.proofs.begin.Statement.{statement}
 use Rattle.log_records.proofs.begin.Tie as tie
 
+none-yet-requires : tie.Need-none-yet-requires
+none-yet-requires c κs = search needs
+
 check-requires : tie.Need-check-requires
 check-requires c κs = search needs
 
@@ -24,7 +27,9 @@ same-length-2 c = search needs
 
 returns : tie.Need-returns
 unfolding runOf
-returns c = (rw (c .going .ensures, ← c .before .before .before .check .ensures, c .before .enum-told .given .1), rw (c .going .ensures))
+returns c =
+    let checked = c .before .before .before in
+    (rw (c .going .ensures, checked .before .before .before .none-yet .ensures, ← checked .check .ensures, c .before .enum-told .given .1), rw (c .going .ensures))
 
 same-length-3 : tie.Need-same-length-3
 same-length-3 c = search needs
@@ -39,6 +44,7 @@ pub begin-spec : {M : Type 1} → statement M
 begin-spec =
     tie.close
     (tie.spec
+    none-yet-requires
     check-requires
     enum-told
     going-requires

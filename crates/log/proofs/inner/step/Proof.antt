@@ -1,4 +1,5 @@
 use borrow.Author.Needs.{needs}
+use native.Mathlib.Omega.{arith}
 use Rattle.log.proofs.Moved.{stepped}
 use Rattle.log.proofs.inner.step.Statement.{statement}
 use Rattle.log.proofs.inner.step.Tie as tie
@@ -6,11 +7,11 @@ use Rattle.log.proofs.inner.step.Tie as tie
 offer-good-requires : tie.Need-offer-good-requires
 offer-good-requires c κs = search needs
 
-enum-known-grown : tie.Need-enum-known-grown
-enum-known-grown c = search needs
+counted-requires : tie.Need-counted-requires
+counted-requires c κs = search needs
 
-add-recorded : tie.Need-add-recorded
-add-recorded c = search needs
+enum-known-offered : tie.Need-enum-known-offered
+enum-known-offered c = search needs
 
 going-requires : tie.Need-going-requires
 going-requires c κs = search needs
@@ -18,17 +19,23 @@ going-requires c κs = search needs
 enum-told : tie.Need-enum-told
 enum-told c = search needs
 
-add-skipped : tie.Need-add-skipped
-add-skipped c = search needs
-
 going-requires-2 : tie.Need-going-requires-2
 going-requires-2 c κs = search needs
 
-enum-known-why : tie.Need-enum-known-why
-enum-known-why c = search needs
+enum-told-2 : tie.Need-enum-told-2
+enum-told-2 c = search needs
+
+going-requires-3 : tie.Need-going-requires-3
+going-requires-3 c κs = search needs
+
+enum-known-offered-2 : tie.Need-enum-known-offered-2
+enum-known-offered-2 c = search needs
 
 stopped-requires : tie.Need-stopped-requires
-stopped-requires c κs = search needs
+stopped-requires c κs =
+    let counted = c .before .before .before in
+    let start = counted .before .before .before .before .before .before .before .before .before in
+    rw (counted .counted .ensures, c .before .offered2 .given .1) (omega (arith, start .pre .1))
 
 same-length : tie.Need-same-length
 same-length c = search needs
@@ -38,8 +45,9 @@ same-length-2 c = search needs
 
 returns : tie.Need-returns
 returns c =
-    let offered = c .before .before .before .before .before .before .before .before in
-    stepped (offered .before .before .before .before .before .before .args .p) _ _ _ _ _ _ _ _ (c .going .ensures) (c .before .before .before .grown .given .1) (offered .offer-good .ensures)
+    let counted = c .before .before .before .before in
+    let offered = counted .before .before .before .before in
+    stepped (offered .before .before .before .before .before .args .p) _ _ _ _ _ _ _ _ _ (counted .counted .ensures) (c .going .ensures) (c .before .before .offered .given .1) (offered .offer-good .ensures)
 
 same-length-3 : tie.Need-same-length-3
 same-length-3 c = search needs
@@ -49,8 +57,9 @@ same-length-4 c = search needs
 
 returns-2 : tie.Need-returns-2
 returns-2 c =
-    let offered = c .before .before .before .before .before .before .before in
-    stepped (offered .before .before .before .before .before .before .args .p) _ _ _ _ _ _ _ _ (c .going2 .ensures) (c .before .before .enum-told .given .1) (offered .offer-good .ensures)
+    let counted = c .before .before .before in
+    let offered = counted .before .before .before .before in
+    stepped (offered .before .before .before .before .before .args .p) _ _ _ _ _ _ _ _ _ (counted .counted .ensures) (c .going2 .ensures) (c .before .enum-told .given .1) (offered .offer-good .ensures)
 
 same-length-5 : tie.Need-same-length-5
 same-length-5 c = search needs
@@ -60,21 +69,35 @@ same-length-6 c = search needs
 
 returns-3 : tie.Need-returns-3
 returns-3 c =
-    let offered = c .before .before .before .before .before .before .before in
-    stepped (offered .before .before .before .before .before .before .args .p) _ _ _ _ _ _ _ _ (c .stopped .ensures) (c .before .before .why .given .1) (offered .offer-good .ensures)
+    let counted = c .before .before .before in
+    let offered = counted .before .before .before .before in
+    stepped (offered .before .before .before .before .before .args .p) _ _ _ _ _ _ _ _ _ (counted .counted .ensures) (c .going3 .ensures) (c .before .enum-told2 .given .1) (offered .offer-good .ensures)
+
+same-length-7 : tie.Need-same-length-7
+same-length-7 c = search needs
+
+same-length-8 : tie.Need-same-length-8
+same-length-8 c = search needs
+
+returns-4 : tie.Need-returns-4
+returns-4 c =
+    let counted = c .before .before .before .before in
+    let offered = counted .before .before .before .before in
+    stepped (offered .before .before .before .before .before .args .p) _ _ _ _ _ _ _ _ _ (counted .counted .ensures) (c .stopped .ensures) (c .before .before .offered2 .given .1) (offered .offer-good .ensures)
 
 pub step-spec : {M : Type 1} → statement M
 step-spec =
     tie.close
     (tie.spec
     offer-good-requires
-    enum-known-grown
-    add-recorded
+    counted-requires
+    enum-known-offered
     going-requires
     enum-told
-    add-skipped
     going-requires-2
-    enum-known-why
+    enum-told-2
+    going-requires-3
+    enum-known-offered-2
     stopped-requires
     same-length
     same-length-2
@@ -84,4 +107,7 @@ step-spec =
     returns-2
     same-length-5
     same-length-6
-    returns-3)
+    returns-3
+    same-length-7
+    same-length-8
+    returns-4)

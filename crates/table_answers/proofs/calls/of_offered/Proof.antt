@@ -1,6 +1,13 @@
 use borrow.Author.Needs.{needs}
+use native.Mathlib.Omega.{arith}
 use Rattle.table_answers.proofs.calls.of_offered.Statement.{statement}
 use Rattle.table_answers.proofs.calls.of_offered.Tie as tie
+
+none-yet-requires : tie.Need-none-yet-requires
+none-yet-requires c κs = search needs
+
+counted-requires : tie.Need-counted-requires
+counted-requires c κs = rw (c .none-yet .ensures) (omega arith)
 
 enum-known-offered : tie.Need-enum-known-offered
 enum-known-offered c = search needs
@@ -20,6 +27,15 @@ answer-requires-2 c κs = search needs
 with-table-requires-2 : tie.Need-with-table-requires-2
 with-table-requires-2 c κs = search needs
 
+enum-told-2 : tie.Need-enum-told-2
+enum-told-2 c = search needs
+
+answer-requires-3 : tie.Need-answer-requires-3
+answer-requires-3 c κs = search needs
+
+with-table-requires-3 : tie.Need-with-table-requires-3
+with-table-requires-3 c κs = search needs
+
 enum-known-offered-2 : tie.Need-enum-known-offered-2
 enum-known-offered-2 c = search needs
 
@@ -30,27 +46,42 @@ no-table-requires : tie.Need-no-table-requires
 no-table-requires c κs = search needs
 
 returns : tie.Need-returns
-returns c = rw (c .with-table .ensures, c .before .answer .ensures, c .before .before .before .offered .given .1)
+returns c =
+    let counted = c .before .before .before .before .before in
+    rw (c .with-table .ensures, c .before .answer .ensures, counted .counted .ensures, counted .before .none-yet .ensures, c .before .before .before .offered .given .1)
 
 returns-2 : tie.Need-returns-2
-returns-2 c = rw (c .with-table2 .ensures, c .before .answer2 .ensures, c .before .before .enum-told .given .1)
+returns-2 c =
+    let counted = c .before .before .before .before in
+    rw (c .with-table2 .ensures, c .before .answer2 .ensures, counted .counted .ensures, counted .before .none-yet .ensures, c .before .before .enum-told .given .1)
 
 returns-3 : tie.Need-returns-3
-returns-3 c = rw (c .no-table .ensures, c .before .of-table .ensures, c .before .before .before .offered2 .given .1)
+returns-3 c =
+    let counted = c .before .before .before .before in
+    rw (c .with-table3 .ensures, c .before .answer3 .ensures, counted .counted .ensures, counted .before .none-yet .ensures, c .before .before .enum-told2 .given .1)
+
+returns-4 : tie.Need-returns-4
+returns-4 c = rw (c .no-table .ensures, c .before .of-table .ensures, c .before .before .before .offered2 .given .1)
 
 pub of-offered-spec : {M : Type 1} → statement M
 of-offered-spec =
     tie.close
     (tie.spec
+    none-yet-requires
+    counted-requires
     enum-known-offered
     answer-requires
     with-table-requires
     enum-told
     answer-requires-2
     with-table-requires-2
+    enum-told-2
+    answer-requires-3
+    with-table-requires-3
     enum-known-offered-2
     of-table-requires
     no-table-requires
     returns
     returns-2
-    returns-3)
+    returns-3
+    returns-4)

@@ -1,0 +1,98 @@
+-- The two reasons for a skip are together the Rust's one rule.
+use mathlib.Core.Path.{_≡_, refl, sym, _∙_}
+use mathlib.Core.Logic.{_⊎_, inl, inr, ⊎-elim, _↔_}
+use mathlib.Core.Bool.{Bool, true, false, not, cond, _&&_, _||_, true≢false}
+use mathlib.Core.List.{List, [], _∷_}
+use Prim.Native.Nat.{ℕ, zero, suc, _+_}
+use native.Mathlib.Nat.{add-zero}
+use lib.Dec.{leb·suc-suc}
+use native.Mathlib.Omega.{arith}
+use borrow.Author.Tests.{lt-ltb, le-ltb}
+use lib.IntN.{ℤ, pos, negsuc, _-ℤ_}
+use lib.Signed.{ltZ}
+use Rattle.told.specs.Told.{Told, gave, refused, ifGood}
+use Rattle.limits.specs.Domain.{outside}
+use Rattle.tracker.specs.declared.SequenceTracker.{SequenceTracker}
+use Rattle.tracker.specs.declared.LastRecorded.{LastRecorded}
+use Rattle.tracker.specs.declared.LastRecorded.the-variants.{Never, At}
+use Rattle.order.proofs.Bools.{not-given}
+use Rattle.offers.specs.Whole.{checkIn}
+use Rattle.offers.specs.Offer.{Outcome, recorded, wentBack, tooSoon, goesBack, comesTooSoon, lowSeq}
+use Rattle.offers.specs.Reasons.{skips, Reasons}
+
+sign-of : (b : Bool) (m n : ℕ) → ltZ (cond b (negsuc m) (pos n)) (pos 0) ≡ b
+sign-of true m n = refl
+sign-of false m n = le-ltb n 0 (omega arith)
+
+-- a number is below another exactly where the difference is below 0
+diff-sign : (s l : ℤ) → ltZ (s -ℤ l) (pos 0) ≡ ltZ s l
+diff-sign (pos a) (pos zero) = rw (add-zero a)
+diff-sign (pos a) (pos (suc b)) = sign-of _ _ _
+diff-sign (pos a) (negsuc b) = le-ltb (a + suc b) 0 (omega arith)
+diff-sign (negsuc a) (pos zero) = sign-of _ _ _ ∙ lt-ltb 0 (suc a) (omega arith)
+diff-sign (negsuc a) (pos (suc b)) = refl
+diff-sign (negsuc a) (negsuc b) = sign-of _ _ _ ∙ leb·suc-suc (suc b) a
+
+-- and what is below 0 is below every interval
+below-none : (z : ℤ) (k : ℕ) → ltZ z (pos 0) ≡ true → ltZ z (pos k) ≡ true
+below-none (pos n) k e = absurd (true≢false (sym e ∙ le-ltb n 0 (omega arith)))
+below-none (negsuc n) k e = refl
+
+-- of two tests of which the second follows from the first
+second-test : (a b : Bool) → (a ≡ true → b ≡ true) → a || (not a && b) ≡ b
+second-test true b f = sym (f refl)
+second-test false b f = refl
+
+first-alone : (a b : Bool) → a && (not a && b) ≡ false
+first-alone true b = refl
+first-alone false b = refl
+
+not-then : (a : Bool) → not a && a ≡ false
+not-then true = refl
+not-then false = refl
+
+-- an offer is skipped where its table is good, its second inside, and one of the two tests holds
+module _ (t : SequenceTracker) where
+  abbrev Skips : Told Outcome → Type 0
+  Skips o = (o ≡ gave wentBack) ⊎ (o ≡ gave tooSoon)
+
+  not-refused : (what : List ℕ) → Skips (refused what) → ⊥
+  not-refused what = ⊎-elim (not-given what wentBack) (not-given what tooSoon)
+
+  not-recorded : Skips (gave (recorded t)) → ⊥
+  not-recorded = ⊎-elim (λ e. let z : _≡_ {A = ℕ} 0 1 = cc e in omega arith) (λ e. let z : _≡_ {A = ℕ} 0 1 = cc e in omega arith)
+
+  abbrev Exactly : Told (Unit {0}) → Bool → Bool → Told Outcome → Type 0
+  Exactly checked out skip o = Skips o ↔ ((checked ≡ gave tt) × (out ≡ false) × (skip ≡ true))
+
+  told-so : (checked : Told (Unit {0})) (out back soon low : Bool)
+      → Exactly checked out (back || soon)
+      (ifGood checked (cond out (refused (16 ∷ [])) (cond back (gave wentBack) (cond soon (gave tooSoon) (cond low (refused (17 ∷ [])) (gave (recorded t)))))))
+  told-so (refused what) out back soon low = (λ h. absurd (not-refused what h), λ h. absurd (not-given what tt (h .0)))
+  told-so (gave _) true back soon low = (λ h. absurd (not-refused (16 ∷ []) h), λ h. absurd (true≢false (h .1)))
+  told-so (gave _) false true soon low = (λ h. (refl, refl, refl), λ h. inl refl)
+  told-so (gave _) false false true low = (λ h. (refl, refl, refl), λ h. inr refl)
+  told-so (gave _) false false false true = (λ h. absurd (not-refused (17 ∷ []) h), λ h. absurd (true≢false (sym (h .2))))
+  told-so (gave _) false false false false = (λ h. absurd (not-recorded h), λ h. absurd (true≢false (sym (h .2))))
+
+pub reasons : Reasons
+reasons = record {
+  either = either;
+  not-both = not-both;
+  only-back = only-back;
+  skipped = λ w seq ts.
+      rw (← either (w .state .«last_recorded_ts») (w .state .«interval_secs») (ts .0))
+      (told-so _ (checkIn w) (outside (ts .0)) (goesBack (w .state .«last_recorded_ts») (ts .0)) (comesTooSoon (w .state .«last_recorded_ts») (w .state .«interval_secs») (ts .0)) (lowSeq (w .seqs) (w .state .count) (seq .0)));
+}
+  where
+    either : (last : LastRecorded) (interval : ℕ) (s : ℤ) → (goesBack last s || comesTooSoon last interval s) ≡ skips last interval s
+    either Never interval s = refl
+    either (At l) interval s = second-test (ltZ s (l .0)) (ltZ (s -ℤ l .0) (pos interval)) (λ e. below-none (s -ℤ l .0) interval (diff-sign s (l .0) ∙ e))
+
+    not-both : (last : LastRecorded) (interval : ℕ) (s : ℤ) → (goesBack last s && comesTooSoon last interval s) ≡ false
+    not-both Never interval s = refl
+    not-both (At l) interval s = first-alone (ltZ s (l .0)) (ltZ (s -ℤ l .0) (pos interval))
+
+    only-back : (last : LastRecorded) (s : ℤ) → comesTooSoon last 0 s ≡ false
+    only-back Never s = refl
+    only-back (At l) s = rw (diff-sign s (l .0)) (not-then (ltZ s (l .0)))
