@@ -63,9 +63,9 @@ module _ (table : SequenceTracker) (seqs : List ℕ) (secs : List ℤ) (seq : Se
   pub taken : (t : SequenceTracker) → offerTo (whole table seqs secs) seq ts ≡ gave (recorded t) → Taken t
   taken t h = go (checkOf table seqs secs) refl h
     where
-      not-skipped : (b : Bool) (o : Outcome) (next : Told Outcome) → (gave o ≡ gave (recorded t) → ⊥) → cond b (gave o) next ≡ gave (recorded t) → (b ≡ false) × (next ≡ gave (recorded t))
-      not-skipped true o next differ e = absurd (differ e)
-      not-skipped false o next differ e = (refl, e)
+      past-skip : (b : Bool) (o : Outcome) (next : Told Outcome) → (gave o ≡ gave (recorded t) → ⊥) → cond b (gave o) next ≡ gave (recorded t) → (b ≡ false) × (next ≡ gave (recorded t))
+      past-skip true o next differ e = absurd (differ e)
+      past-skip false o next differ e = (refl, e)
 
       go : (checked : Told (Unit {0})) → checkOf table seqs secs ≡ checked
           → ifGood checked
@@ -79,8 +79,8 @@ module _ (table : SequenceTracker) (seqs : List ℕ) (secs : List ℤ) (seq : Se
       go (refused what) e h = absurd (not-given what (recorded t) h)
       go (gave tt) e h =
           let h16 = passed (outside (ts .0)) (16 ∷ []) _ (recorded t) h in
-          let back = not-skipped (goesBack (table .«last_recorded_ts») (ts .0)) wentBack _ (λ e. let z : _≡_ {A = ℕ} 0 1 = cc e in omega arith) (h16 .1) in
-          let soon = not-skipped (comesTooSoon (table .«last_recorded_ts») (table .«interval_secs») (ts .0)) tooSoon _ (λ e. let z : _≡_ {A = ℕ} 0 1 = cc e in omega arith) (back .1) in
+          let back = past-skip (goesBack (table .«last_recorded_ts») (ts .0)) wentBack _ (λ e. let z : _≡_ {A = ℕ} 0 1 = cc e in omega arith) (h16 .1) in
+          let soon = past-skip (comesTooSoon (table .«last_recorded_ts») (table .«interval_secs») (ts .0)) tooSoon _ (λ e. let z : _≡_ {A = ℕ} 0 1 = cc e in omega arith) (back .1) in
           let h17 = passed (lowSeq seqs (table .count) (seq .0)) (17 ∷ []) _ (recorded t) (soon .1) in
           record { good = e; inside = h16 .0; onward = back .0; late = soon .0; rising = h17 .0; state = cc (h17 .1) }
 

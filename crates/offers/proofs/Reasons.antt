@@ -5,9 +5,9 @@ use mathlib.Core.Bool.{Bool, true, false, not, cond, _&&_, _||_, true≢false}
 use mathlib.Core.List.{List, [], _∷_}
 use Prim.Native.Nat.{ℕ, zero, suc, _+_}
 use native.Mathlib.Nat.{add-zero}
-use lib.Dec.{leb·suc-suc}
 use native.Mathlib.Omega.{arith}
 use borrow.Author.Tests.{lt-ltb, le-ltb}
+use lib.Dec.{leb·suc-suc}
 use lib.IntN.{ℤ, pos, negsuc, _-ℤ_}
 use lib.Signed.{ltZ}
 use Rattle.told.specs.Told.{Told, gave, refused, ifGood}
@@ -15,7 +15,7 @@ use Rattle.limits.specs.Domain.{outside}
 use Rattle.tracker.specs.declared.SequenceTracker.{SequenceTracker}
 use Rattle.tracker.specs.declared.LastRecorded.{LastRecorded}
 use Rattle.tracker.specs.declared.LastRecorded.the-variants.{Never, At}
-use Rattle.order.proofs.Bools.{not-given}
+use Rattle.order.proofs.Bools.{not-given, neither}
 use Rattle.offers.specs.Whole.{checkIn}
 use Rattle.offers.specs.Offer.{Outcome, recorded, wentBack, tooSoon, goesBack, comesTooSoon, lowSeq}
 use Rattle.offers.specs.Reasons.{skips, Reasons}
@@ -75,6 +75,17 @@ module _ (t : SequenceTracker) where
   told-so (gave _) false false false true = (λ h. absurd (not-refused (17 ∷ []) h), λ h. absurd (true≢false (sym (h .2))))
   told-so (gave _) false false false false = (λ h. absurd (not-recorded h), λ h. absurd (true≢false (sym (h .2))))
 
+pub either : (last : LastRecorded) (interval : ℕ) (s : ℤ) → (goesBack last s || comesTooSoon last interval s) ≡ skips last interval s
+either Never interval s = refl
+either (At l) interval s = second-test (ltZ s (l .0)) (ltZ (s -ℤ l .0) (pos interval)) (λ e. below-none (s -ℤ l .0) interval (diff-sign s (l .0) ∙ e))
+
+-- an offer that the rule skips and that did not go back came too soon; one that it does not skip did neither
+pub else-soon : (last : LastRecorded) (interval : ℕ) (s : ℤ) → skips last interval s ≡ true → goesBack last s ≡ false → comesTooSoon last interval s ≡ true
+else-soon last interval s h b = rw b at (either last interval s) ∙ h
+
+pub not-skipped : (last : LastRecorded) (interval : ℕ) (s : ℤ) → skips last interval s ≡ false → (goesBack last s ≡ false) × (comesTooSoon last interval s ≡ false)
+not-skipped last interval s h = neither (goesBack last s) (comesTooSoon last interval s) (either last interval s ∙ h)
+
 pub reasons : Reasons
 reasons = record {
   either = either;
@@ -85,10 +96,6 @@ reasons = record {
       (told-so _ (checkIn w) (outside (ts .0)) (goesBack (w .state .«last_recorded_ts») (ts .0)) (comesTooSoon (w .state .«last_recorded_ts») (w .state .«interval_secs») (ts .0)) (lowSeq (w .seqs) (w .state .count) (seq .0)));
 }
   where
-    either : (last : LastRecorded) (interval : ℕ) (s : ℤ) → (goesBack last s || comesTooSoon last interval s) ≡ skips last interval s
-    either Never interval s = refl
-    either (At l) interval s = second-test (ltZ s (l .0)) (ltZ (s -ℤ l .0) (pos interval)) (λ e. below-none (s -ℤ l .0) interval (diff-sign s (l .0) ∙ e))
-
     not-both : (last : LastRecorded) (interval : ℕ) (s : ℤ) → (goesBack last s && comesTooSoon last interval s) ≡ false
     not-both Never interval s = refl
     not-both (At l) interval s = first-alone (ltZ s (l .0)) (ltZ (s -ℤ l .0) (pos interval))

@@ -32,10 +32,10 @@ pub fn offer_good(
         return Offered::Refused(Refusal::OfferedOutside);
     }
     let last = table.last_recorded_ts;
-    if steps::went_back(last, s) {
-        return Offered::WentBack;
-    }
-    if steps::too_soon(last, table.interval_secs, s) {
+    if steps::skips(last, table.interval_secs, s) {
+        if steps::went_back(last, s) {
+            return Offered::WentBack;
+        }
         return Offered::TooSoon;
     }
     let n = table.count;

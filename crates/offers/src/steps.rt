@@ -5,13 +5,29 @@ ghost use Prim.Native.Nat.{_≤_, _<_};
 ghost use lib.ListN.{length};
 ghost use Rattle.limits.specs.Domain.{outside};
 ghost use Rattle.tracker.specs.Inner.{lastOutside};
-ghost use Rattle.offers.specs.Offer.{goesBack, comesTooSoon, lowSeq, stateWith};
+ghost use Rattle.offers.specs.Offer.{goesBack, lowSeq, stateWith};
+ghost use Rattle.offers.specs.Reasons.{skips};
 use signed::as_signed;
 use tracker::LastRecorded;
 use tracker::Second;
 use tracker::SequenceTracker;
 
-// Whether s is below the last recorded second.
+// The one test that decides whether an offer is skipped. In the domain the difference cannot overflow.
+pub(crate) fn skips(last: LastRecorded, interval_secs: u64, s: i64) -> bool
+    requires { ⌜ (lastOutside last ≡ false) × (outside s ≡ false) × («interval_secs» < 9223372036854775808) ⌝ }
+    ensures { λ r. ⌜ r ≡ skips last «interval_secs» s ⌝ }
+{
+    match last {
+        LastRecorded::Never => false,
+        LastRecorded::At(before) => {
+            let x = before.0;
+            let passed = s - x;
+            passed < as_signed(interval_secs)
+        }
+    }
+}
+
+// And which of the two reasons it is: s is below the last recorded second, or it is not.
 pub(crate) fn went_back(last: LastRecorded, s: i64) -> bool
     ensures { λ r. ⌜ r ≡ goesBack last s ⌝ }
 {
@@ -20,21 +36,6 @@ pub(crate) fn went_back(last: LastRecorded, s: i64) -> bool
         LastRecorded::At(before) => {
             let x = before.0;
             s < x
-        }
-    }
-}
-
-// Whether s, which did not go back, comes before the interval has passed. In the domain the difference cannot overflow.
-pub(crate) fn too_soon(last: LastRecorded, interval_secs: u64, s: i64) -> bool
-    requires { ⌜ (lastOutside last ≡ false) × (outside s ≡ false) × («interval_secs» < 9223372036854775808) × (goesBack last s ≡ false) ⌝ }
-    ensures { λ r. ⌜ r ≡ comesTooSoon last «interval_secs» s ⌝ }
-{
-    match last {
-        LastRecorded::Never => false,
-        LastRecorded::At(before) => {
-            let x = before.0;
-            let passed = s - x;
-            passed < as_signed(interval_secs)
         }
     }
 }

@@ -8,7 +8,9 @@ use Rattle.limits.specs.Domain.{outside}
 use Rattle.tracker.proofs.Good.{Agreed, fine, count-seqs, count-secs, capacity-seqs, capacity-secs}
 use Rattle.offers.specs.Whole.{Table}
 use Rattle.offers.specs.Offer.{goesBack, comesTooSoon, lowSeq}
+use Rattle.offers.specs.Reasons.{skips}
 use Rattle.keeping.proofs.Thinned.{thinned-length}
+use Rattle.offers.proofs.Reasons.{else-soon, not-skipped}
 use Rattle.offers.proofs.Unique.{left-by}
 use Rattle.offers.proofs.inner.offer_good.Statement.{statement}
 use Rattle.offers.proofs.inner.offer_good.Tie as tie
@@ -26,13 +28,17 @@ whole c = search needs
 inside : (c : tie.Else1) → outside (c .before .before .before .before .args .ts .0) ≡ false
 inside c = rw (← whole (c .before .before)) (sym (c .before .out-of-domain .ensures) ∙ c .if1 .left)
 
-onward : (c : tie.Else2) → let a = c .before .before .before .before .before .before .args in goesBack (a .table .«last_recorded_ts») (a .ts .0) ≡ false
-onward c = rw (← whole (c .before .before .before .before)) (sym (c .before .went-back .ensures) ∙ c .if2 .left)
+skip : (c : tie.Then2) → let a = c .before .before .before .before .before .before .args in skips (a .table .«last_recorded_ts») (a .table .«interval_secs») (a .ts .0) ≡ true
+skip c = rw (← whole (c .before .before .before .before)) (sym (c .before .skips .ensures) ∙ c .if2 .taken)
 
-late : (c : tie.Else3) → let a = c .before .before .before .before .before .before .before .before .args in comesTooSoon (a .table .«last_recorded_ts») (a .table .«interval_secs») (a .ts .0) ≡ false
-late c = rw (← whole (c .before .before .before .before .before .before)) (sym (c .before .too-soon .ensures) ∙ c .if3 .left)
+no-skip : (c : tie.Else2)
+    → let a = c .before .before .before .before .before .before .args in
+    (goesBack (a .table .«last_recorded_ts») (a .ts .0) ≡ false) × (comesTooSoon (a .table .«last_recorded_ts») (a .table .«interval_secs») (a .ts .0) ≡ false)
+no-skip c =
+    let a = c .before .before .before .before .before .before .args in
+    not-skipped (a .table .«last_recorded_ts») (a .table .«interval_secs») (a .ts .0) (rw (← whole (c .before .before .before .before)) (sym (c .before .skips .ensures) ∙ c .if2 .left))
 
-rising : (c : tie.Else4) → let a = c .before .before .before .before .before .before .before .before .before .before .before .args in lowSeq (a .seqs .now) (a .table .count) (a .seq .0) ≡ false
+rising : (c : tie.Else4) → let a = c .before .before .before .before .before .before .before .before .before .args in lowSeq (a .seqs .now) (a .table .count) (a .seq .0) ≡ false
 rising c = sym (c .before .low-seq .ensures) ∙ c .if4 .left
 
 out-of-domain-requires : tie.Need-out-of-domain-requires
@@ -45,63 +51,62 @@ returns c =
     let e : outside (start .args .ts .0) ≡ true = rw (← whole told) (sym (c .before .out-of-domain .ensures) ∙ c .if1 .taken) in
     left-by (table-at start) (start .args .seq) (start .args .ts) (rw (start .pre, e)) refl refl
 
+skips-requires : tie.Need-skips-requires
+skips-requires c κs =
+    let told = c .before .before in
+    let a = sound (told .before .before) in
+    (a .last-inside, rw (whole told) (inside c), omega (arith, a .interval-ok))
+
 went-back-requires : tie.Need-went-back-requires
 went-back-requires c κs = search needs
 
 returns-2 : tie.Need-returns-2
 returns-2 c =
-    let else1 = c .before .before in
+    let then2 = c .before .before in
+    let else1 = then2 .before .before in
     let told = else1 .before .before in
     let start = told .before .before in
     let a = start .args in
-    let e : goesBack (a .table .«last_recorded_ts») (a .ts .0) ≡ true = rw (← whole told) (sym (c .before .went-back .ensures) ∙ c .if2 .taken) in
+    let e : goesBack (a .table .«last_recorded_ts») (a .ts .0) ≡ true = rw (← whole told) (sym (c .before .went-back .ensures) ∙ c .if3 .taken) in
     left-by (table-at start) (start .args .seq) (start .args .ts) (rw (start .pre, inside else1, e)) refl refl
-
-too-soon-requires : tie.Need-too-soon-requires
-too-soon-requires c κs =
-    let else1 = c .before .before in
-    let told = else1 .before .before in
-    let a = sound (told .before .before) in
-    (a .last-inside, rw (whole told) (inside else1), omega (arith, a .interval-ok), rw (whole told) (onward c))
 
 returns-3 : tie.Need-returns-3
 returns-3 c =
-    let else2 = c .before .before in
-    let else1 = else2 .before .before in
+    let then2 = c .before .before in
+    let else1 = then2 .before .before in
     let told = else1 .before .before in
     let start = told .before .before in
     let a = start .args in
-    let e : comesTooSoon (a .table .«last_recorded_ts») (a .table .«interval_secs») (a .ts .0) ≡ true = rw (← whole told) (sym (c .before .too-soon .ensures) ∙ c .if3 .taken) in
-    left-by (table-at start) (start .args .seq) (start .args .ts) (rw (start .pre, inside else1, onward else2, e)) refl refl
+    let e : goesBack (a .table .«last_recorded_ts») (a .ts .0) ≡ false = rw (← whole told) (sym (c .before .went-back .ensures) ∙ c .if3 .left) in
+    left-by (table-at start) (start .args .seq) (start .args .ts) (rw (start .pre, inside else1, e, else-soon (a .table .«last_recorded_ts») (a .table .«interval_secs») (a .ts .0) (skip then2) e)) refl refl
 
 low-seq-requires : tie.Need-low-seq-requires
-low-seq-requires c κs = count-seqs _ _ _ (sound (c .before .before .before .before .before .before .before .before .before))
+low-seq-requires c κs = count-seqs _ _ _ (sound (c .before .before .before .before .before .before .before))
 
 same-length : tie.Need-same-length
 same-length c = search needs
 
 returns-4 : tie.Need-returns-4
 returns-4 c =
-    let else3 = c .before .before .before in
-    let else2 = else3 .before .before in
+    let else2 = c .before .before .before in
     let else1 = else2 .before .before in
     let start = else1 .before .before .before .before in
-    left-by (table-at start) (start .args .seq) (start .args .ts) (rw (start .pre, inside else1, onward else2, late else3, sym (c .before .low-seq .ensures) ∙ c .if4 .taken)) refl refl
+    left-by (table-at start) (start .args .seq) (start .args .ts) (rw (start .pre, inside else1, no-skip else2 .0, no-skip else2 .1, sym (c .before .low-seq .ensures) ∙ c .if4 .taken)) refl refl
 
 cast-capacity : tie.Need-cast-capacity
 cast-capacity c = search needs
 
 seq-keep-requires : tie.Need-seq-keep-requires
 seq-keep-requires c κs =
-    let else3 = c .before .before .before .before .before in
-    let a = sound (else3 .before .before .before .before .before .before .before .before) in
+    let else2 = c .before .before .before .before .before in
+    let a = sound (else2 .before .before .before .before .before .before) in
     (count-seqs _ _ _ a, capacity-seqs _ _ _ a .0, capacity-seqs _ _ _ a .1)
 
 sec-keep-requires : tie.Need-sec-keep-requires
 sec-keep-requires c κs =
     let else4 = c .before .before .before .before .before .before in
-    let else3 = else4 .before .before .before in
-    let a = sound (else3 .before .before .before .before .before .before .before .before) in
+    let else2 = else4 .before .before .before in
+    let a = sound (else2 .before .before .before .before .before .before) in
     (count-secs _ _ _ a, capacity-secs _ _ _ a .0, capacity-secs _ _ _ a .1)
 
 with-pair-requires : tie.Need-with-pair-requires
@@ -118,15 +123,14 @@ returns-5 c =
     let secs = c .before .before in
     let seqs = secs .before .before .before .before in
     let else4 = seqs .before .before .before in
-    let else3 = else4 .before .before .before in
-    let else2 = else3 .before .before in
+    let else2 = else4 .before .before .before in
     let else1 = else2 .before .before in
     let told = else1 .before .before in
     let start = told .before .before in
     let a = start .args in
     let length-is = thinned-length (a .table .count) (a .seqs .now) (a .seq .0) (count-seqs _ _ _ (sound start)) (a .table .capacity) in
     left-by (table-at start) (start .args .seq) (start .args .ts)
-    (rw (start .pre, inside else1, onward else2, late else3, rising else4, length-is, ← seqs .seq-keep .ensures .0, c .with-pair .ensures))
+    (rw (start .pre, inside else1, no-skip else2 .0, no-skip else2 .1, rising else4, length-is, ← seqs .seq-keep .ensures .0, c .with-pair .ensures))
     (seqs .seq-keep .ensures .1)
     (rw (whole told) at (secs .sec-keep .ensures))
 
@@ -136,9 +140,9 @@ offer-good-spec =
     (tie.spec
     out-of-domain-requires
     returns
+    skips-requires
     went-back-requires
     returns-2
-    too-soon-requires
     returns-3
     low-seq-requires
     same-length

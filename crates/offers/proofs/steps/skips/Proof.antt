@@ -7,15 +7,12 @@ use mir.Val.{toZ, ofZ}
 use Prim.Native.Nat.{_^_}
 use borrow.Author.Tests.{lt-ltb}
 use lib.IntN.{pos}
-use lib.Signed.{ltZ}
 use Rattle.signed.specs.Signed.{signed}
 use Rattle.limits.specs.Domain.{outside}
 use Rattle.tracker.specs.Inner.{lastOutside}
-use Rattle.tracker.specs.declared.LastRecorded.{LastRecorded}
-use Rattle.offers.specs.Offer.{goesBack}
 use Rattle.offers.proofs.Difference.{diff-fits}
-use Rattle.offers.proofs.steps.too_soon.Statement.{statement}
-use Rattle.offers.proofs.steps.too_soon.Tie as tie
+use Rattle.offers.proofs.steps.skips.Statement.{statement}
+use Rattle.offers.proofs.steps.skips.Tie as tie
 
 enum-told : tie.Need-enum-told
 enum-told c = search needs
@@ -45,8 +42,7 @@ returns-2 c =
     let r : toZ w64 (ofZ w64 x) ≡ x = search needs in
     let n = start .args .interval-secs in
     let small : toZ w64 (ofZ w64 (signed n)) ≡ pos n = rw (lt-ltb n (2 ^ 63) (start .pre .2)) (toZ-pos w64 (start .pre .2)) in
-    let on : ltZ (start .args .s) x ≡ false = ap (λ (l : LastRecorded). goesBack l (start .args .s)) (sym (told .before .before .last .given .1)) ∙ start .pre .3 in
-    rw (told .before .before .last .given .1, c .as-signed .ensures, toZ-ofZ (sub-passed told), r, toZ-ofZ (start .fits .s), small, on)
+    rw (told .before .before .last .given .1, c .as-signed .ensures, toZ-ofZ (sub-passed told), r, toZ-ofZ (start .fits .s), small)
 
-pub too-soon-spec : {M : Type 1} → statement M
-too-soon-spec = tie.close (tie.spec enum-told enum-known-last sub-passed as-signed-requires returns returns-2)
+pub skips-spec : {M : Type 1} → statement M
+skips-spec = tie.close (tie.spec enum-told enum-known-last sub-passed as-signed-requires returns returns-2)
