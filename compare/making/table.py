@@ -176,7 +176,7 @@ def worked(oracle, records):
 
 def skips(oracle, records):
     """Seconds at the limits of each reason, with a sequence below the last kept one and with one above it. At capacity 3 halving drops the
-    newest pair, so that the last recorded second is not the last kept one's; at 4 it is."""
+    newest pair, so that the last recorded second is not the last kept one's, but at the longest interval, where one pair is recorded; at 4 it is."""
     for capacity in (3, 4):
         for interval in (0, 1, 60, LONGEST_INTERVAL):
             table = Table(oracle, records, capacity, interval)

@@ -134,6 +134,7 @@ static void order(void)
     offered("a sequence drops where a second is too soon", table, 4, 159, TOO_SOON);
     gives_none("skut_offer", "a sequence drops where nothing is skipped", skut_offer(table, ARRAYS, 4, 160), SKUT_OFFERED_DROPS, 0);
     gives_none("skut_offer", "a second outside the years that is below the last", skut_offer(table, ARRAYS, 6, FIRST_SECOND - 1), SKUT_OFFERED_OUTSIDE, 0);
+    as_due("skut_offer, the arrays", "refused by 17 and by 16");
     table = made_at(INT64_MAX, 100);
     gives_none("skut_offer", "a second outside the years within the interval", skut_offer(table, ARRAYS, 6, LAST_SECOND + 1), SKUT_OFFERED_OUTSIDE, 0);
     as_due("skut_offer, the arrays", "refused by 16");

@@ -9,7 +9,7 @@ use crate::Logged;
 use crate::Tally;
 pub use crate::tallies::counted;
 pub use crate::tallies::none_yet;
-pub use crate::tallies::total;
+use crate::tallies::total;
 use offers::Offered;
 use offers::inner as offer;
 use tracker::Refusal;

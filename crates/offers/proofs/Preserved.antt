@@ -56,7 +56,6 @@ module _ (table : SequenceTracker) (seqs : List ℕ) (secs : List ℤ) (seq : Se
     pub good : checkOf table seqs secs ≡ gave tt
     pub inside : outside (ts .0) ≡ false
     pub onward : goesBack (table .«last_recorded_ts») (ts .0) ≡ false
-    pub late : comesTooSoon (table .«last_recorded_ts») (table .«interval_secs») (ts .0) ≡ false
     pub rising : lowSeq seqs (table .count) (seq .0) ≡ false
     pub state : stateWith table (length (keptWith table seqs (seq .0))) ts ≡ t
 
@@ -82,7 +81,7 @@ module _ (table : SequenceTracker) (seqs : List ℕ) (secs : List ℤ) (seq : Se
           let back = past-skip (goesBack (table .«last_recorded_ts») (ts .0)) wentBack _ (λ e. let z : _≡_ {A = ℕ} 0 1 = cc e in omega arith) (h16 .1) in
           let soon = past-skip (comesTooSoon (table .«last_recorded_ts») (table .«interval_secs») (ts .0)) tooSoon _ (λ e. let z : _≡_ {A = ℕ} 0 1 = cc e in omega arith) (back .1) in
           let h17 = passed (lowSeq seqs (table .count) (seq .0)) (17 ∷ []) _ (recorded t) (soon .1) in
-          record { good = e; inside = h16 .0; onward = back .0; late = soon .0; rising = h17 .0; state = cc (h17 .1) }
+          record { good = e; inside = h16 .0; onward = back .0; rising = h17 .0; state = cc (h17 .1) }
 
   -- what each array holds of the pair, and how many
   module _ (t : SequenceTracker) (k : Taken t) where

@@ -41,7 +41,7 @@ pub extern "C" fn skut_check(state: State, seqs: &[u64], secs: &[i64]) -> Answer
     calls::of_checked(tracker::check(table, seqs, secs))
 }
 
-// One of the three numbers of the tally is 1; skipped, for either reason, the state is as it was.
+// Where it is not refused, one of the three numbers of the tally is 1; skipped, for either reason, the state is as it was.
 #[no_mangle]
 pub extern "C" fn skut_offer(
     state: State,

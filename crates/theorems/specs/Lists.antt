@@ -1,5 +1,5 @@
--- A list of offers leaves what its records leave when they are offered one by one, and counts what they are told: so the third demand, whose runs have single
--- offers, is of tables that lists made too.
+-- A list of offers leaves what the records that it counted leave when they are offered one by one, and counts what these are told: so the third demand, whose
+-- runs have single offers, is of tables that lists made too.
 use Prim.Native.Nat.{ℕ}
 use mathlib.Core.Path.{_≡_}
 use mathlib.Core.List.{List, [], _∷_, map}
