@@ -3,8 +3,8 @@
 pub mod inner; // inner.rt: what our own crates call
 mod refusals; // refusals.rt: an answer, and a refusal as one
 
-// What a call answers: 0 and the values that it gives, or the number of its refusal and what that also tells, in document
-// 01's order. Values that are not told are 0; an array is 0 for the sequences and 1 for the seconds.
+// What a call answers: 0 and the values that it gives, or the number of its refusal and what that also tells, in the order
+// of docs/RULES.md, "Refusals". Values that are not told are 0; an array is 0 for the sequences and 1 for the seconds.
 #[repr(C)]
 pub struct Answer {
     pub number: u32,

@@ -9,9 +9,10 @@ use Rattle.offers.specs.Offer.{toldOffer, offeredTo, offering}
 use Rattle.offers.specs.declared.Offered.{Offered}
 use Rattle.offers.specs.declared.Offered.the-variants.{Recorded, WentBack, TooSoon, Refused}
 use Rattle.told.specs.Told.{gave}
-use Rattle.log.specs.Log.{done, counted, total, unless, runOf}
+use Rattle.tallies.specs.Tally.{counted, total}
+use Rattle.tallies.specs.declared.Tally.{Tally}
+use Rattle.log.specs.Log.{done, unless, runOf}
 use Rattle.log.specs.Inner.{stoppedAt, leftBy, standing, endOf, goingOf, stoppedOf, Steps}
-use Rattle.log.specs.declared.Tally.{Tally}
 use Rattle.log.specs.declared.inner.Progress.{Progress}
 
 -- the progress after an offer's answer, with the tally so

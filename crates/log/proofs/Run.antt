@@ -15,10 +15,11 @@ use Rattle.tracker.specs.declared.SequenceTracker.{SequenceTracker}
 use Rattle.offers.specs.Whole.{Table, whole, checkIn, Left, leaving, Leaves}
 use Rattle.offers.specs.Offer.{Outcome, recorded, wentBack, tooSoon, offeredTo}
 use Rattle.offers.proofs.Preserved.{stays-good}
-use Rattle.log.specs.Log.{Log, done, stopped, noneYet, counted, total, unless, runOf, logOf}
+use Rattle.tallies.specs.Tally.{noneYet, counted, total}
+use Rattle.tallies.specs.declared.Tally.{Tally}
+use Rattle.log.specs.Log.{Log, done, stopped, unless, runOf, logOf}
 use Rattle.log.specs.Pairs.{pairOf}
 use Rattle.log.specs.Inner.{tells, stoppedAt, toldIn, toldProgress, leftBy, standing, endOf, goingOf, Begins, Steps}
-use Rattle.log.specs.declared.Tally.{Tally}
 use Rattle.log.specs.declared.inner.Phase.{Phase}
 use Rattle.log.specs.declared.inner.Phase.the-variants.{Going, Bad, Stopped}
 use Rattle.log.specs.declared.inner.Progress.{Progress}

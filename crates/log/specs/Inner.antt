@@ -11,8 +11,9 @@ use Rattle.tracker.specs.declared.TrackedSeq.{TrackedSeq}
 use Rattle.tracker.specs.declared.SequenceTracker.{SequenceTracker}
 use Rattle.offers.specs.Whole.{Table, whole, Left, leaving}
 use Rattle.offers.specs.Offer.{Outcome, offerTo, offeredTo}
-use Rattle.log.specs.Log.{Log, done, stopped, total, runOf, logOf}
-use Rattle.log.specs.declared.Tally.{Tally}
+use Rattle.tallies.specs.Tally.{total}
+use Rattle.tallies.specs.declared.Tally.{Tally}
+use Rattle.log.specs.Log.{Log, done, stopped, runOf, logOf}
 use Rattle.log.specs.declared.inner.Phase.{Phase}
 use Rattle.log.specs.declared.inner.Phase.the-variants.{Going, Bad, Stopped}
 use Rattle.log.specs.declared.inner.Progress.{Progress}

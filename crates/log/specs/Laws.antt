@@ -8,18 +8,26 @@ use lib.ListN.{length}
 use Rattle.told.specs.Told.{Told, gave, refused}
 use Rattle.tracker.specs.declared.TrackedSeq.{TrackedSeq}
 use Rattle.offers.specs.Whole.{Table, checkIn}
-use Rattle.log.specs.Log.{Log, done, stopped, total, logOf}
+use Rattle.tallies.specs.Tally.{total}
+use Rattle.log.specs.Log.{Log, done, stopped, logOf}
 use Rattle.log.specs.Pairs.{pairsLogOf, extendOf}
 
--- recorded, went back and too soon add up to all m records; or, where one was refused, to those before it: its position, told after 16 or 17
-abbrev pub AddsUp : ℕ → Told Log → Type 0
-AddsUp m (gave (done t n)) = total n ≡ m
-AddsUp m (gave (stopped what t n)) = (total n < m) × ((what ≡ 16 ∷ total n ∷ []) ⊎ (what ≡ 17 ∷ total n ∷ []))
-AddsUp m (refused what) = ⊥
+-- what refuses a record that is offered to a good table: 16 or 17; and one whose second is in the domain, as those of a good table are: 17 alone
+abbrev pub Refuses : ℕ → Type 0
+Refuses number = (number ≡ 16) ⊎ (number ≡ 17)
+
+abbrev pub RefusesInside : ℕ → Type 0
+RefusesInside number = number ≡ 17
+
+-- recorded, went back and too soon add up to all m records; or, where one was refused, to those before it: its position, told after one of these numbers
+abbrev pub AddsUp : (ℕ → Type 0) → ℕ → Told Log → Type 0
+AddsUp By m (gave (done t n)) = total n ≡ m
+AddsUp By m (gave (stopped what t n)) = (total n < m) × (number : ℕ) × By number × (what ≡ number ∷ total n ∷ [])
+AddsUp By m (refused what) = ⊥
 
 -- to a good table: of a list of records, of two lists of one length, and of the pairs that another good table keeps
 abbrev pub TalliesAddUp : Type 0
 TalliesAddUp = (w : Table) → checkIn w ≡ gave tt
-    → ((rs : List TrackedSeq) → AddsUp (length rs) (logOf w rs .answer))
-    × ((qs : List ℕ) (ss : List ℤ) → length qs ≡ length ss → AddsUp (length qs) (pairsLogOf w qs ss .answer))
-    × ((other : Table) → checkIn other ≡ gave tt → AddsUp (other .state .count) (extendOf w other .answer))
+    → ((rs : List TrackedSeq) → AddsUp Refuses (length rs) (logOf w rs .answer))
+    × ((qs : List ℕ) (ss : List ℤ) → length qs ≡ length ss → AddsUp Refuses (length qs) (pairsLogOf w qs ss .answer))
+    × ((other : Table) → checkIn other ≡ gave tt → AddsUp RefusesInside (other .state .count) (extendOf w other .answer))

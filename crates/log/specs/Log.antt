@@ -6,8 +6,9 @@ use Rattle.tracker.specs.Refusal.{told}
 use Rattle.tracker.specs.declared.TrackedSeq.{TrackedSeq}
 use Rattle.tracker.specs.declared.SequenceTracker.{SequenceTracker}
 use Rattle.offers.specs.Whole.{Table, checkIn, Left, leaving}
-use Rattle.offers.specs.Offer.{Outcome, recorded, wentBack, tooSoon, offerTo, offeredTo}
-use Rattle.log.specs.declared.Tally.{Tally}
+use Rattle.offers.specs.Offer.{offerTo, offeredTo}
+use Rattle.tallies.specs.Tally.{noneYet, counted}
+use Rattle.tallies.specs.declared.Tally.{Tally}
 use Rattle.log.specs.declared.Logged.{Logged}
 use Rattle.log.specs.declared.Logged.the-variants.{Done, Stopped, Refused, OwnRefused, OtherRefused, LengthsDiffer}
 
@@ -26,21 +27,6 @@ toldLog (Refused why) = refused (told why)
 toldLog (OwnRefused why) = refused (told why ++ (0 ∷ []))
 toldLog (OtherRefused why) = refused (told why ++ (1 ∷ []))
 toldLog LengthsDiffer = refused (18 ∷ [])
-
--- before the first record
-abbrev pub noneYet : Tally
-noneYet = record { recorded = 0; «went_back» = 0; «too_soon» = 0 }
-
--- one more that was recorded, went back or came too soon, as an offer told; one that was refused is not counted
-abbrev pub counted : Told Outcome → Tally → Tally
-counted (gave (recorded t)) n = record { recorded = n .recorded + 1; «went_back» = n .«went_back»; «too_soon» = n .«too_soon» }
-counted (gave wentBack) n = record { recorded = n .recorded; «went_back» = n .«went_back» + 1; «too_soon» = n .«too_soon» }
-counted (gave tooSoon) n = record { recorded = n .recorded; «went_back» = n .«went_back»; «too_soon» = n .«too_soon» + 1 }
-counted (refused what) n = n
-
--- how many records a tally counts
-abbrev pub total : Tally → ℕ
-total n = n .recorded + n .«went_back» + n .«too_soon»
 
 -- what is left of a refusal, else what follows
 abbrev pub unless : {A B : Type 0} → Told A → (List ℕ → B) → B → B

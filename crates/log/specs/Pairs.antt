@@ -9,7 +9,8 @@ use Rattle.told.specs.Told.{Told, refused}
 use Rattle.tracker.specs.Table.{kept}
 use Rattle.tracker.specs.declared.TrackedSeq.{TrackedSeq}
 use Rattle.offers.specs.Whole.{Table, checkIn, Left, leaving}
-use Rattle.log.specs.Log.{Log, noneYet, unless, runOf, logOf}
+use Rattle.tallies.specs.Tally.{noneYet}
+use Rattle.log.specs.Log.{Log, unless, runOf, logOf}
 
 -- a sequence and a second as a record
 abbrev pub pairOf : ℕ → ℤ → TrackedSeq

@@ -1,19 +1,10 @@
 // A log of offers: records offered to a table in order, up to the first refusal. Here are what comes of one and the step of one
 // record; `log_records` has the log that arrives as a lent list of records, `log_pairs` those whose records stand in two lists.
+use tallies::Tally;
 use tracker::Refusal;
 use tracker::SequenceTracker;
 
 pub mod inner; // inner.rt: a log record by record, for our own crates
-mod tallies; // tallies.rt: the numbers counted
-
-// How many records were recorded, and how many skipped, by the reason: a second below the last recorded one, or not below it
-// but before the interval has passed. Programs in other languages get it as it is.
-#[repr(C)]
-pub struct Tally {
-    pub recorded: usize,
-    pub went_back: usize,
-    pub too_soon: usize,
-}
 
 // What came of a log: all records offered; stopped at the record `at`, with the state as the offers before it left it; or
 // refused before the first record, because a table is bad (where there are two, the own or the other), or because the two

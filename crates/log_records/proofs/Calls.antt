@@ -31,7 +31,7 @@ use Rattle.tracker.specs.Table.{checkOf}
 use Rattle.tracker.specs.declared.TrackedSeq.{TrackedSeq}
 use Rattle.tracker.specs.declared.SequenceTracker.{SequenceTracker}
 use Rattle.offers.specs.Whole.{whole}
-use Rattle.log.specs.Log.{total}
+use Rattle.tallies.specs.Tally.{total}
 use Rattle.log.specs.Inner.{Begins, Steps}
 use Rattle.log.specs.declared.inner.Progress.{Progress}
 use Rattle.log_records.proofs.Both.{X, Z, LentX, LentZ, Callee, gives-back}

@@ -6,6 +6,7 @@ use log::Logged;
 use log::inner as steps;
 use log::inner::Phase;
 use log::inner::Progress;
+use tallies::inner::none_yet;
 use tracker::Checked;
 use tracker::SequenceTracker;
 use tracker::TrackedSeq;
@@ -15,7 +16,7 @@ use tracker::check;
 fn begin(seqs: &mut [u64], secs: &mut [i64], table: SequenceTracker, n: usize) -> Progress
     ensures { λ r. ⌜ Begins (whole table (now (seqs .entry)) (now (secs .entry))) n r (now (seqs .exit)) (now (secs .exit)) ⌝ }
 {
-    let tally = steps::none_yet();
+    let tally = none_yet();
     match check(table, seqs, secs) {
         Checked::Good => steps::going(table, tally, n),
         Checked::Refused(why) => Progress {

@@ -1,8 +1,7 @@
 -- Laws that belong to no one function.
-pub mod Difference
 pub mod Rise
 pub mod Preserved
 pub mod Alike
 pub mod Newest
 pub mod Unique
-pub mod Reasons
+pub mod Skipped

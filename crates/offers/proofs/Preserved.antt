@@ -28,9 +28,10 @@ use Rattle.order.proofs.Bools.{below-or, not-given, passed}
 use Rattle.tracker.proofs.Good.{Fine, fine, fine-again, room-is, count-seqs, count-secs}
 use Rattle.order.proofs.Order.{nat-order, int-order, further}
 use Rattle.offers.specs.Whole.{whole, checkIn}
+use Rattle.skipping.specs.Reasons.{goesBack, comesTooSoon}
 use Rattle.keeping.specs.Keep.{keptWith}
 use Rattle.keeping.specs.Inner.{countWith}
-use Rattle.offers.specs.Offer.{Outcome, recorded, wentBack, tooSoon, goesBack, comesTooSoon, lowSeq, stateWith, offerTo, offeredTo}
+use Rattle.offers.specs.Offer.{Outcome, recorded, wentBack, tooSoon, lowSeq, stateWith, offerTo, offeredTo}
 use Rattle.keeping.proofs.Thinned.{appended-old, appended-new, thinned-length}
 use Rattle.offers.proofs.Rise.{over-length, selected, kept-sorted, kept-below}
 

@@ -1,3 +1,3 @@
 pub mod Whole
 pub mod Offer
-pub mod Reasons
+pub mod Skipped

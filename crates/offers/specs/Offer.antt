@@ -1,11 +1,9 @@
 -- An offer: what it tells, and the table after it.
 use Prim.Native.Nat.{ℕ, _-_}
-use mathlib.Core.Bool.{Bool, false, not, cond, _&&_}
+use mathlib.Core.Bool.{Bool, not, cond, _&&_}
 use mathlib.Core.List.{List, [], _∷_}
 use lib.Dec.{ltb, eqb}
-use lib.IntN.{ℤ, pos, _-ℤ_}
 use lib.ListN.{length, getD}
-use lib.Signed.{ltZ}
 use Rattle.told.specs.Told.{Told, gave, refused, ifGood}
 use Rattle.told.specs.Over.{over}
 use Rattle.limits.specs.Domain.{outside}
@@ -13,8 +11,8 @@ use Rattle.tracker.specs.Refusal.{told}
 use Rattle.tracker.specs.declared.Seq.{Seq}
 use Rattle.tracker.specs.declared.Second.{Second}
 use Rattle.tracker.specs.declared.SequenceTracker.{SequenceTracker}
-use Rattle.tracker.specs.declared.LastRecorded.{LastRecorded}
-use Rattle.tracker.specs.declared.LastRecorded.the-variants.{Never, At}
+use Rattle.tracker.specs.declared.LastRecorded.the-variants.{At}
+use Rattle.skipping.specs.Reasons.{goesBack, comesTooSoon}
 use Rattle.keeping.specs.Keep.{keptWith}
 use Rattle.offers.specs.Whole.{Table, whole, checkIn, Left, leaving}
 use Rattle.offers.specs.declared.Offered.{Offered}
@@ -32,16 +30,6 @@ toldOffer (Recorded t) = gave (recorded t)
 toldOffer WentBack = gave wentBack
 toldOffer TooSoon = gave tooSoon
 toldOffer (Refused r) = refused (told r)
-
--- went back: a second was recorded before, and the offered one is below it
-abbrev pub goesBack : LastRecorded → ℤ → Bool
-goesBack Never s = false
-goesBack (At last) s = ltZ s (last .0)
-
--- too soon: it is not below it, but the difference is under the interval
-abbrev pub comesTooSoon : LastRecorded → ℕ → ℤ → Bool
-comesTooSoon Never interval s = false
-comesTooSoon (At last) interval s = not (goesBack (At last) s) && ltZ (s -ℤ last .0) (pos interval)
 
 -- a sequence below the last kept one, of n
 abbrev pub lowSeq : List ℕ → ℕ → ℕ → Bool

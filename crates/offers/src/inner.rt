@@ -8,6 +8,7 @@ use crate::Offered;
 use crate::steps;
 use keeping::inner as keep;
 use limits::inner as checks;
+use skipping::inner as skip;
 use tracker::Refusal;
 use tracker::Second;
 use tracker::Seq;
@@ -32,8 +33,8 @@ pub fn offer_good(
         return Offered::Refused(Refusal::OfferedOutside);
     }
     let last = table.last_recorded_ts;
-    if steps::skips(last, table.interval_secs, s) {
-        if steps::went_back(last, s) {
+    if skip::skips(last, table.interval_secs, s) {
+        if skip::went_back(last, s) {
             return Offered::WentBack;
         }
         return Offered::TooSoon;

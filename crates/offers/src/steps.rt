@@ -1,44 +1,11 @@
-// The tests of an offer, and the state that it leaves.
+// The test for 17, and the state that an offer leaves.
 ghost use mathlib.Core.Path.{_≡_};
-ghost use mathlib.Core.Bool.{false};
-ghost use Prim.Native.Nat.{_≤_, _<_};
+ghost use Prim.Native.Nat.{_≤_};
 ghost use lib.ListN.{length};
-ghost use Rattle.limits.specs.Domain.{outside};
-ghost use Rattle.tracker.specs.Inner.{lastOutside};
-ghost use Rattle.offers.specs.Offer.{goesBack, lowSeq, stateWith};
-ghost use Rattle.offers.specs.Reasons.{skips};
-use signed::as_signed;
+ghost use Rattle.offers.specs.Offer.{lowSeq, stateWith};
 use tracker::LastRecorded;
 use tracker::Second;
 use tracker::SequenceTracker;
-
-// The one test that decides whether an offer is skipped. In the domain the difference cannot overflow.
-pub(crate) fn skips(last: LastRecorded, interval_secs: u64, s: i64) -> bool
-    requires { ⌜ (lastOutside last ≡ false) × (outside s ≡ false) × («interval_secs» < 9223372036854775808) ⌝ }
-    ensures { λ r. ⌜ r ≡ skips last «interval_secs» s ⌝ }
-{
-    match last {
-        LastRecorded::Never => false,
-        LastRecorded::At(before) => {
-            let x = before.0;
-            let passed = s - x;
-            passed < as_signed(interval_secs)
-        }
-    }
-}
-
-// And which of the two reasons it is: s is below the last recorded second, or it is not.
-pub(crate) fn went_back(last: LastRecorded, s: i64) -> bool
-    ensures { λ r. ⌜ r ≡ goesBack last s ⌝ }
-{
-    match last {
-        LastRecorded::Never => false,
-        LastRecorded::At(before) => {
-            let x = before.0;
-            s < x
-        }
-    }
-}
 
 // Whether q is below the last kept sequence.
 pub(crate) fn low_seq(seqs: &[u64], n: usize, q: u64) -> bool

@@ -5,7 +5,8 @@ use lib.IntN.{ℤ}
 use lib.ListN.{take}
 use Rattle.told.specs.Told.{Told}
 use Rattle.offers.specs.Whole.{Table, Left}
-use Rattle.log.specs.Log.{Log, noneYet, runOf}
+use Rattle.tallies.specs.Tally.{noneYet}
+use Rattle.log.specs.Log.{Log, runOf}
 use Rattle.log.specs.Pairs.{recordsOf}
 
 -- `pairs_good`: the first n pairs of two lists, on a good table

@@ -11,6 +11,7 @@ ghost use Rattle.log.specs.Pairs.{pairOf};
 ghost use Rattle.pair_walk.specs.Inner.{frontOf};
 use log::Logged;
 use log::inner as steps;
+use tallies::inner::none_yet;
 use tracker::Second;
 use tracker::Seq;
 use tracker::SequenceTracker;
@@ -40,7 +41,7 @@ pub fn pairs_good(
         (frontOf (whole table (now (seqs .entry)) (now (secs .entry))) n (now («from_seqs» .entry)) (now («from_secs» .entry)))
         (toldLog r) (now (seqs .exit)) (now (secs .exit)) ⌝ }
 {
-    let mut p = steps::going(table, steps::none_yet(), n);
+    let mut p = steps::going(table, none_yet(), n);
     let mut i = 0;
     while i < p.end {
         let pair = pair_at(from_seqs, from_secs, i);

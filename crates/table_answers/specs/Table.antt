@@ -4,8 +4,9 @@ use mathlib.Core.List.{List, [], _∷_}
 use Rattle.told.specs.Told.{Told, gave, refused}
 use Rattle.tracker.specs.declared.SequenceTracker.{SequenceTracker}
 use Rattle.offers.specs.Offer.{Outcome, recorded, wentBack, tooSoon}
-use Rattle.log.specs.Log.{Log, done, stopped, noneYet, counted}
-use Rattle.log.specs.declared.Tally.{Tally}
+use Rattle.tallies.specs.Tally.{noneYet, counted}
+use Rattle.tallies.specs.declared.Tally.{Tally}
+use Rattle.log.specs.Log.{Log, done, stopped}
 use Rattle.answers.specs.Answer.{answerOf}
 use Rattle.states.specs.State.{stateOf, noState}
 use Rattle.states.specs.declared.State.{State}

@@ -10,10 +10,10 @@ use crate::refusals;
 use crate::tables;
 use answers::inner::answer;
 use log::Logged;
-use log::inner::counted;
-use log::inner::none_yet;
 use offers::Offered;
 use restoring::Restored;
+use tallies::inner::counted;
+use tallies::inner::none_yet;
 use tracker::Made;
 use tracker::SequenceTracker;
 

@@ -6,8 +6,8 @@ mod refusals; // refusals.rt: a refusal in a list of offers
 mod tables; // tables.rt: with a table's state, and with none
 
 use answers::Answer;
-use log::Tally;
 use states::State;
+use tallies::Tally;
 
 // What a call answers that gives a state: where it gives none, `state` is one that every call refuses.
 #[repr(C)]

@@ -1,14 +1,14 @@
 // The answers that hold a table's state, and that hold none.
 ghost use mathlib.Core.Path.{_≡_};
 ghost use mathlib.Core.List.{[], _∷_};
-ghost use Rattle.log.specs.Log.{noneYet};
+ghost use Rattle.tallies.specs.Tally.{noneYet};
 ghost use Rattle.states.specs.State.{stateOf, noState};
 ghost use Rattle.table_answers.specs.Table.{tableAnswerOf};
 use crate::TableAnswer;
 use answers::Answer;
 use answers::inner::answer;
-use log::Tally;
-use log::inner::none_yet;
+use tallies::Tally;
+use tallies::inner::none_yet;
 use tracker::SequenceTracker;
 
 // With a table's state, and what the offers came to.

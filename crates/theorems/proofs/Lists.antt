@@ -1,4 +1,4 @@
--- A list of offers leaves what its records leave when they are offered one by one.
+-- A list of offers leaves what the records that it counted leave when they are offered one by one, and counts what these are told.
 use mathlib.Core.Path.{_≡_, refl, sym, ap, _∙_}
 use mathlib.Core.Bool.{Bool, true, false, cond}
 use mathlib.Core.List.{List, [], _∷_, _++_}
@@ -11,8 +11,9 @@ use Rattle.told.specs.Told.{Told, gave, refused}
 use Rattle.tracker.specs.declared.TrackedSeq.{TrackedSeq}
 use Rattle.offers.specs.Whole.{Table, checkIn, Left, leaving}
 use Rattle.offers.specs.Offer.{Outcome, recorded, wentBack, tooSoon, offeredTo}
-use Rattle.log.specs.declared.Tally.{Tally}
-use Rattle.log.specs.Log.{Log, noneYet, counted, total, unless, runOf, logOf}
+use Rattle.tallies.specs.declared.Tally.{Tally}
+use Rattle.tallies.specs.Tally.{noneYet, counted, total}
+use Rattle.log.specs.Log.{Log, unless, runOf, logOf}
 use Rattle.log.specs.Pairs.{recordsOf, pairsLogOf, extendOf}
 use Rattle.log.specs.Inner.{tells, afterRecord, stoppedAt}
 use Rattle.log.proofs.Run.{one-more}

@@ -11,8 +11,9 @@ use Rattle.tracker.specs.declared.TrackedSeq.{TrackedSeq}
 use Rattle.tracker.specs.declared.SequenceTracker.{SequenceTracker}
 use Rattle.offers.specs.Whole.{Table, checkIn, Left, leaving}
 use Rattle.offers.specs.Offer.{Outcome}
-use Rattle.log.specs.declared.Tally.{Tally}
-use Rattle.log.specs.Log.{Log, done, stopped, noneYet, counted, unless, runOf, logOf}
+use Rattle.tallies.specs.declared.Tally.{Tally}
+use Rattle.tallies.specs.Tally.{noneYet, counted}
+use Rattle.log.specs.Log.{Log, done, stopped, unless, runOf, logOf}
 use Rattle.log.specs.Pairs.{recordsOf, pairsLogOf, extendOf}
 use Rattle.log.specs.Inner.{tells, afterRecord, stoppedAt}
 use Rattle.theorems.specs.Run.{keptIn, SameLog}

@@ -9,8 +9,9 @@ use Rattle.told.specs.Told.{Told, gave, refused}
 use Rattle.tracker.specs.declared.TrackedSeq.{TrackedSeq}
 use Rattle.offers.specs.Whole.{Table, Left}
 use Rattle.offers.specs.Offer.{Outcome}
-use Rattle.log.specs.declared.Tally.{Tally}
-use Rattle.log.specs.Log.{Log, done, stopped, noneYet, counted, total, logOf}
+use Rattle.tallies.specs.declared.Tally.{Tally}
+use Rattle.tallies.specs.Tally.{noneYet, counted, total}
+use Rattle.log.specs.Log.{Log, done, stopped, logOf}
 use Rattle.log.specs.Pairs.{recordsOf, pairsLogOf, extendOf}
 use Rattle.theorems.specs.Run.{Event, offered, ranTo, answers, keptIn}
 

@@ -1,9 +1,9 @@
 // Records that change the standing table: T, O, G, X and R.
 use log::Logged;
-use log::Tally;
 use offers::Offered;
 use restoring::Restored;
 use std::num::wrapping_add_usize as after;
+use tallies::Tally;
 use tracker::LastRecorded;
 use tracker::Made;
 use tracker::Refusal;

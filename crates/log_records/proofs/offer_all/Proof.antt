@@ -54,7 +54,8 @@ use Rattle.tracker.specs.Table.{checkOf}
 use Rattle.tracker.specs.declared.TrackedSeq.{TrackedSeq}
 use Rattle.tracker.specs.declared.SequenceTracker.{SequenceTracker}
 use Rattle.offers.specs.Whole.{whole, Leaves}
-use Rattle.log.specs.Log.{toldLog, total, logOf}
+use Rattle.tallies.specs.Tally.{total}
+use Rattle.log.specs.Log.{toldLog, logOf}
 use Rattle.log.specs.Inner.{toldProgress, Begins, Steps}
 use Rattle.log.specs.declared.Logged.{Logged}
 use Rattle.log.specs.declared.inner.Progress.{Progress}

@@ -7,10 +7,10 @@ use mir.Val.{toZ, ofZ}
 use Rattle.limits.specs.Domain.{outside}
 use Rattle.tracker.proofs.Good.{Agreed, fine, count-seqs, count-secs, capacity-seqs, capacity-secs}
 use Rattle.offers.specs.Whole.{Table}
-use Rattle.offers.specs.Offer.{goesBack, comesTooSoon, lowSeq}
-use Rattle.offers.specs.Reasons.{skips}
+use Rattle.offers.specs.Offer.{lowSeq}
+use Rattle.skipping.specs.Reasons.{goesBack, comesTooSoon, skips}
 use Rattle.keeping.proofs.Thinned.{thinned-length}
-use Rattle.offers.proofs.Reasons.{else-soon, not-skipped}
+use Rattle.skipping.proofs.Reasons.{else-soon, not-skipped}
 use Rattle.offers.proofs.Unique.{left-by}
 use Rattle.offers.proofs.inner.offer_good.Statement.{statement}
 use Rattle.offers.proofs.inner.offer_good.Tie as tie

@@ -3,8 +3,8 @@ use mathlib.Core.Path.{_≡_}
 use mir.Facts.{toZ-ofZ}
 use mir.Syntax.{w64}
 use mir.Val.{toZ, ofZ}
-use Rattle.offers.proofs.steps.went_back.Statement.{statement}
-use Rattle.offers.proofs.steps.went_back.Tie as tie
+use Rattle.skipping.proofs.inner.went_back.Statement.{statement}
+use Rattle.skipping.proofs.inner.went_back.Tie as tie
 
 enum-told : tie.Need-enum-told
 enum-told c = search needs

@@ -1,8 +1,8 @@
-// The numbers that a list of offers counts: before its first record, and with one more.
+// A tally before the first record, with one more, and all that it counts.
 ghost use mathlib.Core.Path.{_≡_};
 ghost use Prim.Native.Nat.{_+_, _<_, _^_};
 ghost use Rattle.offers.specs.Offer.{toldOffer};
-ghost use Rattle.log.specs.Log.{noneYet, counted, total};
+ghost use Rattle.tallies.specs.Tally.{noneYet, counted, total};
 use crate::Tally;
 use offers::Offered;
 

@@ -1,6 +1,6 @@
 use borrow.Author.Needs.{needs}
-use Rattle.log.proofs.tallies.counted.Statement.{statement}
-use Rattle.log.proofs.tallies.counted.Tie as tie
+use Rattle.tallies.proofs.inner.counted.Statement.{statement}
+use Rattle.tallies.proofs.inner.counted.Tie as tie
 
 enum-told : tie.Need-enum-told
 enum-told c = search needs

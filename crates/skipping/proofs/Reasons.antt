@@ -1,8 +1,6 @@
 -- The two reasons for a skip are together the Rust's one rule.
 use mathlib.Core.Path.{_≡_, refl, sym, _∙_}
-use mathlib.Core.Logic.{_⊎_, inl, inr, ⊎-elim, _↔_}
 use mathlib.Core.Bool.{Bool, true, false, not, cond, _&&_, _||_, true≢false}
-use mathlib.Core.List.{List, [], _∷_}
 use Prim.Native.Nat.{ℕ, zero, suc, _+_}
 use native.Mathlib.Nat.{add-zero}
 use native.Mathlib.Omega.{arith}
@@ -10,15 +8,10 @@ use borrow.Author.Tests.{lt-ltb, le-ltb}
 use lib.Dec.{leb·suc-suc}
 use lib.IntN.{ℤ, pos, negsuc, _-ℤ_}
 use lib.Signed.{ltZ}
-use Rattle.told.specs.Told.{Told, gave, refused, ifGood}
-use Rattle.limits.specs.Domain.{outside}
-use Rattle.tracker.specs.declared.SequenceTracker.{SequenceTracker}
 use Rattle.tracker.specs.declared.LastRecorded.{LastRecorded}
 use Rattle.tracker.specs.declared.LastRecorded.the-variants.{Never, At}
-use Rattle.order.proofs.Bools.{not-given, neither}
-use Rattle.offers.specs.Whole.{checkIn}
-use Rattle.offers.specs.Offer.{Outcome, recorded, wentBack, tooSoon, goesBack, comesTooSoon, lowSeq}
-use Rattle.offers.specs.Reasons.{skips, Reasons}
+use Rattle.order.proofs.Bools.{neither}
+use Rattle.skipping.specs.Reasons.{goesBack, comesTooSoon, skips, Reasons}
 
 sign-of : (b : Bool) (m n : ℕ) → ltZ (cond b (negsuc m) (pos n)) (pos 0) ≡ b
 sign-of true m n = refl
@@ -51,30 +44,6 @@ not-then : (a : Bool) → not a && a ≡ false
 not-then true = refl
 not-then false = refl
 
--- an offer is skipped where its table is good, its second inside, and one of the two tests holds
-module _ (t : SequenceTracker) where
-  abbrev Skips : Told Outcome → Type 0
-  Skips o = (o ≡ gave wentBack) ⊎ (o ≡ gave tooSoon)
-
-  not-refused : (what : List ℕ) → Skips (refused what) → ⊥
-  not-refused what = ⊎-elim (not-given what wentBack) (not-given what tooSoon)
-
-  not-recorded : Skips (gave (recorded t)) → ⊥
-  not-recorded = ⊎-elim (λ e. let z : _≡_ {A = ℕ} 0 1 = cc e in omega arith) (λ e. let z : _≡_ {A = ℕ} 0 1 = cc e in omega arith)
-
-  abbrev Exactly : Told (Unit {0}) → Bool → Bool → Told Outcome → Type 0
-  Exactly checked out skip o = Skips o ↔ ((checked ≡ gave tt) × (out ≡ false) × (skip ≡ true))
-
-  told-so : (checked : Told (Unit {0})) (out back soon low : Bool)
-      → Exactly checked out (back || soon)
-      (ifGood checked (cond out (refused (16 ∷ [])) (cond back (gave wentBack) (cond soon (gave tooSoon) (cond low (refused (17 ∷ [])) (gave (recorded t)))))))
-  told-so (refused what) out back soon low = (λ h. absurd (not-refused what h), λ h. absurd (not-given what tt (h .0)))
-  told-so (gave _) true back soon low = (λ h. absurd (not-refused (16 ∷ []) h), λ h. absurd (true≢false (h .1)))
-  told-so (gave _) false true soon low = (λ h. (refl, refl, refl), λ h. inl refl)
-  told-so (gave _) false false true low = (λ h. (refl, refl, refl), λ h. inr refl)
-  told-so (gave _) false false false true = (λ h. absurd (not-refused (17 ∷ []) h), λ h. absurd (true≢false (sym (h .2))))
-  told-so (gave _) false false false false = (λ h. absurd (not-recorded h), λ h. absurd (true≢false (sym (h .2))))
-
 pub either : (last : LastRecorded) (interval : ℕ) (s : ℤ) → (goesBack last s || comesTooSoon last interval s) ≡ skips last interval s
 either Never interval s = refl
 either (At l) interval s = second-test (ltZ s (l .0)) (ltZ (s -ℤ l .0) (pos interval)) (λ e. below-none (s -ℤ l .0) interval (diff-sign s (l .0) ∙ e))
@@ -87,14 +56,7 @@ pub not-skipped : (last : LastRecorded) (interval : ℕ) (s : ℤ) → skips las
 not-skipped last interval s h = neither (goesBack last s) (comesTooSoon last interval s) (either last interval s ∙ h)
 
 pub reasons : Reasons
-reasons = record {
-  either = either;
-  not-both = not-both;
-  only-back = only-back;
-  skipped = λ w seq ts.
-      rw (← either (w .state .«last_recorded_ts») (w .state .«interval_secs») (ts .0))
-      (told-so _ (checkIn w) (outside (ts .0)) (goesBack (w .state .«last_recorded_ts») (ts .0)) (comesTooSoon (w .state .«last_recorded_ts») (w .state .«interval_secs») (ts .0)) (lowSeq (w .seqs) (w .state .count) (seq .0)));
-}
+reasons = record { either = either; not-both = not-both; only-back = only-back }
   where
     not-both : (last : LastRecorded) (interval : ℕ) (s : ℤ) → (goesBack last s && comesTooSoon last interval s) ≡ false
     not-both Never interval s = refl

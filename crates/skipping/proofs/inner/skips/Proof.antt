@@ -10,9 +10,9 @@ use lib.IntN.{pos}
 use Rattle.signed.specs.Signed.{signed}
 use Rattle.limits.specs.Domain.{outside}
 use Rattle.tracker.specs.Inner.{lastOutside}
-use Rattle.offers.proofs.Difference.{diff-fits}
-use Rattle.offers.proofs.steps.skips.Statement.{statement}
-use Rattle.offers.proofs.steps.skips.Tie as tie
+use Rattle.skipping.proofs.Difference.{diff-fits}
+use Rattle.skipping.proofs.inner.skips.Statement.{statement}
+use Rattle.skipping.proofs.inner.skips.Tie as tie
 
 enum-told : tie.Need-enum-told
 enum-told c = search needs
