@@ -109,14 +109,14 @@ struct skut_answer skut_check(struct skut_state state, const uint64_t *seqs, siz
 /* Offers a pair: 16; then it may be skipped; then 17; else it is recorded. Where it is not refused, exactly one number of `tally` is 1. Stack: 512 bytes. */
 struct skut_table_answer skut_offer(struct skut_state state, uint64_t *seqs, size_t seqs_len, int64_t *secs, size_t secs_len, uint64_t seq, int64_t sec);
 
-/* Offers pairs in order, from two lists of one length, up to the first that is refused (16, 17). The numbers of `tally` add up to the length, or to the position
- * that is told with 16 or 17. Lists of different length are refused before all else: 18. Stack: 768 bytes. */
+/* Offers pairs in order, from two lists of one length, up to the first that is refused (16, 17). Lists of different length are refused before all else: 18.
+ * Where a state is returned, the numbers of `tally` add up to the length or, with 16 or 17, to the position that is told. Stack: 768 bytes. */
 struct skut_table_answer skut_offer_pairs(struct skut_state state, uint64_t *seqs, size_t seqs_len, int64_t *secs, size_t secs_len,
                                           const uint64_t *from_seqs, size_t from_seqs_len, const int64_t *from_secs, size_t from_secs_len);
 
-/* Offers the pairs of another table, whose arrays are not those of the own one, up to the first that is refused (17). The numbers of `tally` add up to the other
- * table's `count`, or to the position that is told with 17. Where a table is bad (14, 11, 12, 13), which of the two is told last: 0 for the own one, 1 for
- * the other. Stack: 768 bytes. */
+/* Offers the pairs of another table, whose arrays are not those of the own one, up to the first that is refused (17). Where a table is bad (14, 11, 12, 13),
+ * which of the two is told last: 0 for the own one, 1 for the other. Where a state is returned, the numbers of `tally` add up to the other table's `count` or,
+ * with 17, to the position that is told. Stack: 768 bytes. */
 struct skut_table_answer skut_extend_from(struct skut_state state, uint64_t *seqs, size_t seqs_len, int64_t *secs, size_t secs_len,
                                           struct skut_state other, const uint64_t *other_seqs, size_t other_seqs_len,
                                           const int64_t *other_secs, size_t other_secs_len);

@@ -158,16 +158,16 @@ fn lookups(bench: &mut Bench, n: usize) {
     bench.alone(&format!("1,000 checks, mixed, {n}"), "ours", checks);
 }
 
-/// 100,000 offers of a second each. The Rust makes a `DateTime` of each second, as in its own `extend_from`, or has them ready.
-fn offers(bench: &mut Bench, interval: u64, ready: bool) {
-    let (seqs, secs): (Vec<u64>, Vec<i64>) = ((0..100_000).collect(), (0..100_000).collect());
-    let records: Vec<TrackedSeq> = secs.iter().map(|&s| TrackedSeq { seq: s as u64, ts: theirs::instant(s) }).collect();
-    let skipped = if interval == 0 { "all recorded" } else { "59 of 60 skipped" };
+/// 100,000 offers at an interval: the second of each goes by its position. The Rust makes a `DateTime` of each second, as in its own `extend_from`, or has
+/// them ready.
+fn offers(bench: &mut Bench, became: &str, interval: u64, second: fn(i64) -> i64, ready: bool) {
+    let (seqs, secs): (Vec<u64>, Vec<i64>) = ((0..100_000).collect(), (0..100_000).map(second).collect());
+    let records: Vec<TrackedSeq> = seqs.iter().zip(&secs).map(|(&seq, &s)| TrackedSeq { seq, ts: theirs::instant(s) }).collect();
     let from = if ready { "DateTimes ready" } else { "DateTimes made" };
     let mut fresh: Vec<Table> = (0..bench.calls()).map(|_| table_of(&mut Chance::new(5), &SequenceTracker::with_config(8192, interval))).collect();
     let (mut left, mut left_ours) = (None, None);
     bench.work(
-        &format!("100,000 offers, {skipped}, {from}"),
+        &format!("100,000 offers, {became}, {from}"),
         || {
             let mut t = SequenceTracker::with_config(8192, interval);
             if ready {
@@ -199,9 +199,11 @@ pub fn main(timed: bool) {
     for n in [1, 512, 2048, 8192] {
         lookups(&mut bench, n);
     }
-    for interval in [0, 60] {
+    // What becomes of them, the interval, and the second at a position. Of those that go back, each that is recorded is followed by 59 below it.
+    let kinds: [(&str, u64, fn(i64) -> i64); 3] = [("all recorded", 0, |i| i), ("59 of 60 too soon", 60, |i| i), ("59 of 60 went back", 60, |i| i - i % 60 * 2)];
+    for (became, interval, second) in kinds {
         for ready in [false, true] {
-            offers(&mut bench, interval, ready);
+            offers(&mut bench, became, interval, second, ready);
         }
     }
 }

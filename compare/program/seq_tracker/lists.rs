@@ -59,16 +59,16 @@ struct Kinds {
 const LISTS: Kinds = Kinds {
     ended: "lists of offers",
     stopped: "lists of offers stopped, 17",
-    went_back: "lists of offers, some went back",
-    too_soon: "lists of offers, some too soon",
+    went_back: "lists of offers, some went back, none too soon",
+    too_soon: "lists of offers, some too soon, none went back",
     both: "lists of offers, some went back and some too soon",
 };
 
 const EXTENSIONS: Kinds = Kinds {
     ended: "extensions from another table",
     stopped: "extensions from another table stopped, 17",
-    went_back: "extensions from another table, some went back",
-    too_soon: "extensions from another table, some too soon",
+    went_back: "extensions from another table, some went back, none too soon",
+    too_soon: "extensions from another table, some too soon, none went back",
     both: "extensions from another table, some went back and some too soon",
 };
 
@@ -140,8 +140,8 @@ fn every(tally: &mut Tally, chance: &mut Chance, t: &SequenceTracker, limits: &[
     }
 }
 
-/// Tables whose last kept sequence is 5. All but those of the longest interval were halved last, so that at an odd capacity the last
-/// recorded second is not kept.
+/// Tables whose last kept sequence is 5. All but those of the longest interval above capacity 0 were halved last, so that at an odd capacity the
+/// last recorded second is not kept.
 pub fn exhaustive(tally: &mut Tally) {
     let chance = &mut Chance::new(3);
     for capacity in 0..5 {

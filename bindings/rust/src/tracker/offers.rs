@@ -10,10 +10,10 @@ use crate::{Error, ListError, Tally, TrackedSeq};
 /// all that are kept. Before a second was recorded no pair is skipped.
 #[derive(Clone, Copy, Debug, PartialEq, Eq, Hash)]
 pub enum Inserted {
-    /// It was recorded, and its second is the last recorded one. If there were too many pairs, every second one was dropped: at an odd capacity, and at 0,
-    /// this one too.
+    /// It was recorded, and its second is the last recorded one. If there were too many pairs, every second one was dropped: at an odd capacity, and at 0
+    /// where a pair stood already, this one too.
     Recorded,
-    /// It was skipped, as its second is below the last recorded one: a clock may be behind.
+    /// It was skipped, as its second is below the last recorded one: a clock may be behind, or one before it was ahead.
     WentBack,
     /// It was skipped, as its second is not below the last recorded one but less than the interval above it. At interval 0 this does not occur.
     TooSoon,

@@ -10,7 +10,7 @@ pub const CASES: &[Case] = &[
     ("odd capacity drops the newest pair and keeps its second", capacity_3),
     ("capacity 0 keeps one pair", capacity_0),
     ("8,193 pairs become 4,097", halving),
-    ("pairs before the interval has passed are skipped", interval),
+    ("pairs that went back, or came before the interval had passed, are skipped", interval),
     ("lookups take the equal key, or round", lookups),
     ("among equal keys the first answers", equal_keys),
     ("an empty table answers nothing", nothing),
