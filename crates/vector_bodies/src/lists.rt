@@ -1,11 +1,11 @@
 // Lists of sequences and of seconds: read from a body, compared with one, and made by a rule.
 ghost use Prim.Native.Nat.{_<_};
-use crate::body::i64_at;
-use crate::body::u32_at;
-use crate::body::u64_at;
 use crate::digest;
 use std::num::wrapping_add_u64;
 use std::num::wrapping_add_usize as after;
+use vector_bytes::i64_at;
+use vector_bytes::u32_at;
+use vector_bytes::u64_at;
 
 // The most pairs that a rule stands for here.
 pub const MOST: usize = 16384;

@@ -1,6 +1,5 @@
 // Answers of the reader as FORMAT.md writes them: the number of docs/RULES.md and, 256 times, the byte
 // that it also tells.
-use crate::body::wide;
 use crate::digest;
 use crate::lists::values_so;
 use decoder::Decoded;
@@ -8,6 +7,7 @@ use decoder::ImageLen;
 use decoder::Refusal;
 use gorilla::Array;
 use std::num::wrapping_add_usize as after;
+use vector_bytes::wide;
 
 // What 9 and 10 tell of their array.
 fn tells(array: Array) -> usize {

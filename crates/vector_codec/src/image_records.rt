@@ -1,10 +1,10 @@
 // Records of images that are read: D.
 use std::num::wrapping_add_usize as after;
-use vector_bodies::body::part;
-use vector_bodies::body::u8_at;
-use vector_bodies::body::u16_at;
 use vector_bodies::outcome;
-use vector_bodies::tally;
+use vector_bytes::part;
+use vector_bytes::u8_at;
+use vector_bytes::u16_at;
+use vector_tally as tally;
 
 // Whether an image has the length `taken`, and the bytes after it follow; or is refused, and none do.
 fn length_so(bytes: &[u8], code: usize, taken: usize) -> bool {

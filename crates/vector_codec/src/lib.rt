@@ -1,4 +1,3 @@
-// Stored records of bits, lists and images, replayed. For the program `vectors`.
-pub mod bit_records; // bit_records.rt: writes, reads and sign extensions
+// Stored records of lists and images, replayed. For the program `vectors`.
 pub mod image_records; // image_records.rt: images that are read
 pub mod list_records; // list_records.rt: lists that are encoded

@@ -2,14 +2,14 @@
 use encoder::Encoded;
 use encoder::EncodedLen;
 use encoder::Refusal;
-use vector_bodies::body::begins;
-use vector_bodies::body::part;
-use vector_bodies::body::u8_at;
-use vector_bodies::body::u32_at;
 use vector_bodies::digest::image_so;
 use vector_bodies::lists;
 use vector_bodies::outcome;
-use vector_bodies::tally;
+use vector_bytes::begins;
+use vector_bytes::part;
+use vector_bytes::u8_at;
+use vector_bytes::u32_at;
+use vector_tally as tally;
 
 // Bytes that hold the image of every list that a rule makes: 36 bits a code.
 const ROOM: usize = 147520;

@@ -10,14 +10,14 @@ use tracker::Refusal;
 use tracker::Second;
 use tracker::Seq;
 use tracker::SequenceTracker;
-use vector_bodies::body::i64_at;
-use vector_bodies::body::part;
-use vector_bodies::body::u8_at;
-use vector_bodies::body::u16_at;
-use vector_bodies::body::u32_at;
-use vector_bodies::body::u64_at;
 use vector_bodies::lists;
 use vector_bodies::outcome::code_of;
+use vector_bytes::i64_at;
+use vector_bytes::part;
+use vector_bytes::u8_at;
+use vector_bytes::u16_at;
+use vector_bytes::u32_at;
+use vector_bytes::u64_at;
 
 // The table after a record, and whether the record's answer was met.
 pub struct Changed {

@@ -7,14 +7,14 @@ use tracker::LastRecorded;
 use tracker::Second;
 use tracker::Seq;
 use tracker::SequenceTracker;
-use vector_bodies::body::i64_at;
-use vector_bodies::body::part;
-use vector_bodies::body::u8_at;
-use vector_bodies::body::u16_at;
-use vector_bodies::body::u64_at;
 use vector_bodies::digest::image_so;
 use vector_bodies::lists::among;
 use vector_bodies::lists::values_so;
+use vector_bytes::i64_at;
+use vector_bytes::part;
+use vector_bytes::u8_at;
+use vector_bytes::u16_at;
+use vector_bytes::u64_at;
 
 // Bytes that hold the image of a full table.
 const ROOM: usize = 73760;

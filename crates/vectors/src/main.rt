@@ -4,8 +4,8 @@ mod sizes; // sizes.rt: the bodies that each kind may have
 mod stored; // stored.rt: the input, one record after the other
 mod verdict; // verdict.rt: what is printed
 
-use vector_bodies::body::part;
-use vector_bodies::tally;
+use vector_bytes::part;
+use vector_tally as tally;
 
 fn main() {
     let mut bytes = [0u8; stored::ROOM];

@@ -1,12 +1,12 @@
 // One record of any kind, replayed.
 use tracker::SequenceTracker;
-use vector_bodies::tally;
-use vector_codec::bit_records;
+use vector_bits as bit_records;
 use vector_codec::image_records;
 use vector_codec::list_records;
 use vector_tables::table_records;
 use vector_tables::table_records::Changed;
 use vector_tables::view_records;
+use vector_tally as tally;
 
 // A record of bits, lists or images: it needs no table.
 fn replay_codec(kind: u8, b: &[u8], tally: &mut [u64; tally::PLACES]) {

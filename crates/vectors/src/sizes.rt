@@ -1,10 +1,10 @@
 // The bodies that FORMAT.md allows each kind.
 ghost use Prim.Native.Nat.{_<_};
-use vector_bodies::body::u8_at;
-use vector_bodies::body::u16_at;
-use vector_bodies::body::u32_at;
 use vector_bodies::lists::LISTED;
 use vector_bodies::lists::MOST;
+use vector_bytes::u8_at;
+use vector_bytes::u16_at;
+use vector_bytes::u32_at;
 
 // The most bytes of a body.
 const LONGEST: usize = 4096;

@@ -2,12 +2,12 @@
 use crate::records::replay;
 use crate::sizes::is_whole;
 use std::num::wrapping_add_usize as after;
-use vector_bodies::body::begins;
-use vector_bodies::body::part;
-use vector_bodies::body::u8_at;
-use vector_bodies::body::u16_at;
-use vector_bodies::body::u32_at;
-use vector_bodies::tally;
+use vector_bytes::begins;
+use vector_bytes::part;
+use vector_bytes::u8_at;
+use vector_bytes::u16_at;
+use vector_bytes::u32_at;
+use vector_tally as tally;
 
 // One byte more than the input may have, so that too long an input is seen.
 pub const ROOM: usize = 1048576;

@@ -1,9 +1,9 @@
 // What is printed: first a line that starts with `failed: ` where the input is damaged, then what the answers came to.
 use crate::stored::Input;
 use crate::stored::Replayed;
-use vector_bodies::tally;
-use vector_bodies::tally::print_number;
-use vector_bodies::tally::print_word;
+use vector_tally as tally;
+use vector_tally::print_number;
+use vector_tally::print_word;
 
 fn print_failed(records: usize, what: &[u8]) -> bool {
     print_word(b"failed: the input is damaged after ")

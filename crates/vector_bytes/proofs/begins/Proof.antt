@@ -1,8 +1,8 @@
 use lib.ListN.{length}
 use Prim.Native.Nat.{_-_}
 use borrow.Author.Needs.{needs}
-use Rattle.vector_bodies.proofs.body.begins.Statement.{statement}
-use Rattle.vector_bodies.proofs.body.begins.Tie as tie
+use Rattle.vector_bytes.proofs.begins.Statement.{statement}
+use Rattle.vector_bytes.proofs.begins.Tie as tie
 
 abbrev Inv-loop : tie.InvT-loop
 Inv-loop got want i₀ i = Unit {0}

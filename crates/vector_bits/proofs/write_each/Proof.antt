@@ -2,8 +2,8 @@ use Prim.Native.Nat.{_-_}
 use mathlib.Core.Path.{_≡_}
 use lib.ListN.{length}
 use borrow.Author.Needs.{needs}
-use Rattle.vector_codec.proofs.bit_records.write_each.Statement.{statement}
-use Rattle.vector_codec.proofs.bit_records.write_each.Tie as tie
+use Rattle.vector_bits.proofs.write_each.Statement.{statement}
+use Rattle.vector_bits.proofs.write_each.Tie as tie
 
 abbrev Inv-loop : tie.InvT-loop
 Inv-loop b n buf₀ at₀ from₀ i₀ buf at from i = (length buf ≡ length buf₀)

@@ -1,7 +1,7 @@
 use Prim.Native.Nat.{_-_}
 use borrow.Author.Needs.{needs}
-use Rattle.vector_codec.proofs.bit_records.read_each.Statement.{statement}
-use Rattle.vector_codec.proofs.bit_records.read_each.Tie as tie
+use Rattle.vector_bits.proofs.read_each.Statement.{statement}
+use Rattle.vector_bits.proofs.read_each.Tie as tie
 
 abbrev Inv-loop : tie.InvT-loop
 Inv-loop b first n s tally₀ at₀ from₀ i₀ tally at from i = Unit {0}

@@ -1,15 +1,15 @@
-// Records of bits: W, B and N.
+// Stored records of bits, replayed: W, B and N. For the program `vectors`.
 use bits::BitsRead;
 use bits::BitsWritten;
 use bits::Place;
 use signed::Extended;
 use std::num::wrapping_add_usize as after;
-use vector_bodies::body::begins;
-use vector_bodies::body::part;
-use vector_bodies::body::u8_at;
-use vector_bodies::body::u32_at;
-use vector_bodies::body::u64_at;
-use vector_bodies::tally;
+use vector_bytes::begins;
+use vector_bytes::part;
+use vector_bytes::u8_at;
+use vector_bytes::u32_at;
+use vector_bytes::u64_at;
+use vector_tally as tally;
 
 // Where the place stands after a refused write: no body has so many bytes.
 const NOWHERE: usize = 65536;

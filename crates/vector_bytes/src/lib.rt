@@ -1,5 +1,5 @@
-// Numbers and parts of a record's body, least significant byte first. Each answers at every place: past the end stand zeros,
-// and a part that is not there is empty.
+// Numbers and parts of a stored record's body, least significant byte first. Each answers at every place: past the end stand zeros,
+// and a part that is not there is empty. For the program `vectors` and the crates beside it.
 ghost use Prim.Native.Nat.{_<_};
 use std::num::wrapping_add_usize as after;
 
