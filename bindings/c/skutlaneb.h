@@ -24,6 +24,13 @@
 extern "C" {
 #endif
 
+/* Ties a program to the library of its header: the number goes up with each change of a struct below, so that a program and a library of different numbers do
+ * not link. The function does nothing. A compiler that has no such attribute leaves the tie out. */
+void skut_layout_2(void);
+#if defined(__GNUC__)
+static void (*const skut_layout_used)(void) __attribute__((used)) = skut_layout_2;
+#endif
+
 /* What a call answers: number 0 and the values that it gives, or the number of its refusal and what that also tells. Values that are
  * not told are 0. */
 struct skut_answer {

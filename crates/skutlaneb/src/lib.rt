@@ -5,5 +5,6 @@
 // of stack for arrays of its own; no other call keeps an array on the stack.
 pub mod bit_calls; // bit_calls.rt: bits in and out, sign extension
 pub mod image_calls; // image_calls.rt: images of arrays
+pub mod layout; // layout.rt: which layout the structs have
 pub mod store_calls; // store_calls.rt: a table saved and restored
 pub mod table_calls; // table_calls.rt: a table: settings, the check, offers, lookups
