@@ -11,9 +11,9 @@
  * since the length that it counted first is not that of the values which it finds. Offers write to both arrays of a table, so these are apart, too.
  *
  * A refused call leaves every array as it was and returns no state: keep the state you have until an answer gives one. One case is different:
- * skut_offer_pairs and skut_extend_from, refused at a record (16 or 17), keep and return what stood before that record. example.c shows it.
+ * skut_offer_pairs and skut_extend_from, refused at a record (16 or 17; of skut_extend_from 17), keep and return what stood before that record. example.c shows it.
  *
- * No call uses a heap or keeps anything after it returns. What stack each needs stands beside it; a test holds the library to that. */
+ * No call uses a heap or keeps anything after it returns. What stack each call needs stands beside it; a test holds the library to that. */
 #ifndef SKUTLANEB_H
 #define SKUTLANEB_H
 
@@ -25,10 +25,21 @@ extern "C" {
 #endif
 
 /* Ties a program to the library of its header: the number goes up with each change of a struct below, so that a program and a library of different numbers do
- * not link. The function does nothing. A compiler that has no such attribute leaves the tie out. */
+ * not link. The function does nothing. The tie is a pointer that nothing reads, so a file that includes this header needs the library, also where it calls nothing;
+ * with SKUT_NO_TIE defined, for who wants the types alone or finds the calls by dlsym, there is no tie. A compiler without GNU's attributes leaves it out, and one
+ * without `retain` lets the linker's --gc-sections drop it. */
 void skut_layout_2(void);
-#if defined(__GNUC__)
-static void (*const skut_layout_used)(void) __attribute__((used)) = skut_layout_2;
+#if defined(__GNUC__) && !defined(SKUT_NO_TIE)
+#if defined(__has_attribute)
+#if __has_attribute(retain)
+#define SKUT_KEPT __attribute__((used, retain))
+#endif
+#endif
+#ifndef SKUT_KEPT
+#define SKUT_KEPT __attribute__((used))
+#endif
+static void (*const skut_layout_used)(void) SKUT_KEPT = skut_layout_2;
+#undef SKUT_KEPT
 #endif
 
 /* What a call answers: number 0 and the values that it gives, or the number of its refusal and what that also tells. Values that are

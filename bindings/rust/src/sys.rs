@@ -73,6 +73,7 @@ extern "C" {
     pub fn skut_layout_2();
 }
 
-/// Ties the crate to its library: with one whose structs are laid out otherwise a program does not link.
+/// Ties the crate to its library: with one whose structs are laid out otherwise a program does not link. (Seen with rustc 1.96; an older one may let the
+/// linker drop this.)
 #[used]
 static LAYOUT: unsafe extern "C" fn() = skut_layout_2;

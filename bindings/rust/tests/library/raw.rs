@@ -12,6 +12,7 @@ pub const CASES: &[Case] = &[
     ("lists of different length are refused by 18, before the table", uneven),
 ];
 
+// A change here is a change of the number in `skut_layout_2`.
 fn layout() {
     assert_eq!((size_of::<Answer>(), offset_of!(Answer, a), offset_of!(Answer, b), offset_of!(Answer, c)), (32, 8, 16, 24));
     assert_eq!((size_of::<State>(), offset_of!(State, capacity), offset_of!(State, has_last)), (32, 8, 12));
