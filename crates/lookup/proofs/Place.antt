@@ -1,90 +1,196 @@
--- Among keys that do not drop, the boundary that the search finds tells the place that answers.
-use mathlib.Core.Path.{_≡_, refl}
+-- The place that answers, among keys that do not drop: it is that of the nearest key, and the one that the rule in words names.
+use mathlib.Core.Path.{_≡_, refl, sym, _∙_, ap}
 use mathlib.Core.Logic.{⊎-elim}
-use mathlib.Core.Bool.{Bool, true, false, not, and-false, true≢false, false≢true}
+use mathlib.Core.Bool.{Bool, true, false, not, cond, _&&_, and-false, Bool·not-not, true≢false, false≢true}
 use mathlib.Core.List.{List}
-use Prim.Native.Nat.{ℕ, zero, suc, _-_, _≤_, _<_}
-use native.Mathlib.Nat.{eq-or-lt-of-le}
+use Prim.Native.Nat.{ℕ, _≤_, _<_}
+use native.Mathlib.Nat.{le-refl}
 use native.Mathlib.Omega.{arith}
-use borrow.Author.Tests.{lt-ltb, le-ltb, leb-true, leb-false}
-use lib.IntN.{ℤ, pos, negsuc}
+use borrow.Author.Tests.{ltb-true, ltb-false}
+use lib.Dec.{ltb}
 use lib.ListN.{getD}
-use lib.Signed.{ltZ, leZ}
-use Rattle.order.specs.First.{first, lastOr}
+use Rattle.order.specs.First.{first, final}
 use Rattle.order.specs.Order.{drops}
-use Rattle.order.proofs.Bools.{below-or}
-use Rattle.order.proofs.First.{first-is}
+use Rattle.order.specs.Inner.{NoneBelow}
+use Rattle.order.proofs.Bools.{other, true-false, below-or}
+use Rattle.order.proofs.First.{first-is, first-none, first-within, first-holds, first-least, first-under, first-out}
+use Rattle.order.proofs.Last.{final-is, final-none, final-holds, final-most, final-over, final-out}
 use Rattle.order.proofs.Order.{Order, rises}
-use Rattle.search.specs.Inner.{Boundary}
-use Rattle.lookup.specs.Find.{smaller, greater, equal, place}
+use Rattle.search.specs.Keys.{smaller, greater}
+use Rattle.lookup.specs.Find.{place}
+use Rattle.lookup.specs.Laws.{equal, onSide, inWords, NoKey, NearestUp, NearestDown, Nearest}
 use Rattle.lookup.specs.declared.FindOption.{FindOption}
 use Rattle.lookup.specs.declared.FindOption.the-variants.{RoundUp, RoundDown}
 
--- a signed test "at most", by the order test
-pub at-most : (a b : ℤ) → leZ a b ≡ true → ltZ b a ≡ false
-at-most (pos a) (pos b) e = le-ltb b a (leb-true a b e)
-at-most (pos a) (negsuc b) e = absurd (false≢true e)
-at-most (negsuc a) (pos b) e = refl
-at-most (negsuc a) (negsuc b) e = le-ltb a b (leb-true b a e)
+un-not : (b c : Bool) → not b ≡ c → b ≡ not c
+un-not b c e = sym (Bool·not-not b) ∙ ap not e
 
-pub above : (a b : ℤ) → leZ a b ≡ false → ltZ b a ≡ true
-above (pos a) (pos b) e = lt-ltb b a (leb-false a b e)
-above (pos a) (negsuc b) e = refl
-above (negsuc a) (pos b) e = absurd (true≢false e)
-above (negsuc a) (negsuc b) e = lt-ltb a b (leb-false b a e)
+-- of three ways for a key to stand, by the tests below and above: neither is equal, and what is not equal is one of them
+equal-is : (s g : Bool) → not s && not g ≡ true → (s ≡ false) × (g ≡ false)
+equal-is true g e = absurd (false≢true e)
+equal-is false true e = absurd (false≢true e)
+equal-is false false e = (refl, refl)
 
--- the law on the last index at which a test holds
-last-is : (t : ℕ → Bool) (none k i : ℕ) → i < k → t i ≡ true → ((j : ℕ) → i < j → j < k → t j ≡ false) → lastOr t none k ≡ i
-unfolding lastOr
-last-is t none zero i h hit out = absurd (omega arith)
-last-is t none (suc k) i h hit out =
-    let le : i ≤ k = omega arith in
-    ⊎-elim (λ (e : i ≡ k). rw (← e, hit))
-    (λ (l : i < k). rw (out k l (omega arith)) (last-is t none k i l hit (λ j a b. out j a (omega arith))))
-    (eq-or-lt-of-le le)
+is-smaller : (s g : Bool) → not s && not g ≡ false → g ≡ false → s ≡ true
+is-smaller true g e f = refl
+is-smaller false g e f = absurd (true≢false (rw f at e))
 
-pub last-none : (t : ℕ → Bool) (none k : ℕ) → ((j : ℕ) → j < k → t j ≡ false) → lastOr t none k ≡ none
-unfolding lastOr
-last-none t none zero out = refl
-last-none t none (suc k) out = rw (out k (omega arith)) (last-none t none k (λ j l. out j (omega arith)))
+is-greater : (s g : Bool) → not s && not g ≡ false → s ≡ false → g ≡ true
+is-greater s true e f = refl
+is-greater s false e f = absurd (true≢false (rw f at e))
 
-module _ {K : Type 0} (lt : K → K → Bool) (O : Order lt) (d : K) (keys : List K) (n : ℕ) (sorted : (j : ℕ) → j < n → drops lt d keys j ≡ false) where
-  -- the keys that are greater come last
-  climbs : (x : K) (i j : ℕ) → i ≤ j → j < n → greater lt d keys x i ≡ true → greater lt d keys x j ≡ true
-  climbs x i j h l e = O .lt-le x (getD keys i d) (getD keys j d) e (rises lt O d keys n sorted i j h l)
+module _ {K : Type 0} (lt : K → K → Bool) (O : Order lt) (d : K) (keys : List K) (n : ℕ) (x : K) where
+  equal-at : (y : K) (j : ℕ) → equal lt d keys y j ≡ true → (smaller lt d keys y j ≡ false) × (greater lt d keys y j ≡ false)
+  equal-at y j = equal-is (smaller lt d keys y j) (greater lt d keys y j)
 
-  module _ (x : K) (lo : ℕ) (b : Boundary lt d keys x n lo) where
-    before : (j : ℕ) → j < lo → equal lt d keys x j ≡ false
-    before j l = rw (b .under j l)
+  smaller-at : (j : ℕ) → equal lt d keys x j ≡ false → greater lt d keys x j ≡ false → smaller lt d keys x j ≡ true
+  smaller-at j = is-smaller (smaller lt d keys x j) (greater lt d keys x j)
 
-    hits : lo < n → greater lt d keys x lo ≡ false → first (equal lt d keys x) n ≡ lo
-    hits l g = first-is (equal lt d keys x) n lo (b .within) before (λ _. rw (b .over lo (omega arith) l, g))
+  greater-at : (j : ℕ) → equal lt d keys x j ≡ false → smaller lt d keys x j ≡ false → greater lt d keys x j ≡ true
+  greater-at j = is-greater (smaller lt d keys x j) (greater lt d keys x j)
 
-    misses : (lo < n → greater lt d keys x lo ≡ true) → first (equal lt d keys x) n ≡ n
-    misses g = first-is (equal lt d keys x) n n (omega arith)
-        (λ j l. ⊎-elim (λ (p : j < lo). before j p)
-        (λ (p : lo ≤ j). rw (climbs x lo j p l (g (omega arith)), and-false (not (smaller lt d keys x j))))
-        (below-or j lo))
-        (λ l. absurd (omega arith))
+  -- what the two places are, by the tests
+  up-side : place lt d RoundUp keys n x < n → smaller lt d keys x (place lt d RoundUp keys n x) ≡ false
+  up-side h = un-not _ true (first-holds (λ i. not (smaller lt d keys x i)) n h)
 
-    -- an equal key
-    pub place-equal : (opt : FindOption) → lo < n → greater lt d keys x lo ≡ false → place lt d opt keys n x ≡ lo
-    place-equal opt l g = rw (hits l g, lt-ltb lo n l)
+  up-under : (j : ℕ) → j < n → j < place lt d RoundUp keys n x → smaller lt d keys x j ≡ true
+  up-under j l h = un-not _ false (first-under (λ i. not (smaller lt d keys x i)) n j l h)
 
-    -- none, and the boundary is the first greater key
-    pub place-up : (lo < n → greater lt d keys x lo ≡ true) → place lt d RoundUp keys n x ≡ lo
-    place-up g =
-        rw (misses g, le-ltb n n (omega arith))
-        (first-is (greater lt d keys x) n lo (b .within) (λ j l. O .asym (getD keys j d) x (b .under j l)) g)
+  down-side : place lt d RoundDown keys n x < n → greater lt d keys x (place lt d RoundDown keys n x) ≡ false
+  down-side h = un-not _ true (final-holds (λ i. not (greater lt d keys x i)) n h)
 
-    -- none, and the last smaller key stands before the boundary
-    pub place-down : (lo < n → greater lt d keys x lo ≡ true) → 0 < lo → place lt d RoundDown keys n x ≡ lo - 1
-    place-down g p =
-        rw (misses g, le-ltb n n (omega arith))
-        (last-is (smaller lt d keys x) n n (lo - 1) (omega (arith, b .within)) (b .under (lo - 1) (omega arith)) (λ j a l. b .over j (omega arith) l))
+  down-over : (j : ℕ) → j < n → place lt d RoundDown keys n x < j → greater lt d keys x j ≡ true
+  down-over j l h = un-not _ false (final-over (λ i. not (greater lt d keys x i)) n j l h)
 
-    -- none, and no key is smaller
-    pub place-none : (lo < n → greater lt d keys x lo ≡ true) → lo ≡ 0 → place lt d RoundDown keys n x ≡ n
-    place-none g e =
-        rw (misses g, le-ltb n n (omega arith))
-        (last-none (smaller lt d keys x) n n (λ j l. b .over j (omega arith) l))
+  -- ---- no place
+
+  all-smaller : NoKey lt d RoundUp keys n x → (j : ℕ) → j < n → smaller lt d keys x j ≡ true
+  all-smaller h j l = smaller-at j (h j l .0) (h j l .1)
+
+  all-greater : NoKey lt d RoundDown keys n x → (j : ℕ) → j < n → greater lt d keys x j ≡ true
+  all-greater h j l = greater-at j (h j l .0) (h j l .1)
+
+  pub no-place : (opt : FindOption) → NoKey lt d opt keys n x → place lt d opt keys n x ≡ n
+  no-place RoundUp h = first-none (λ i. not (smaller lt d keys x i)) n n (le-refl n) (λ j l. rw (all-smaller h j l))
+  no-place RoundDown h = final-none (λ i. not (greater lt d keys x i)) n (λ j l. rw (all-greater h j l))
+
+  pub no-key : (opt : FindOption) → n ≤ place lt d opt keys n x → NoKey lt d opt keys n x
+  no-key RoundUp h = λ j l.
+      let s = un-not (smaller lt d keys x j) false (first-out (λ i. not (smaller lt d keys x i)) n h j l) in
+      (rw s, O .asym (getD keys j d) x s)
+  no-key RoundDown h = λ j l.
+      let g = un-not (greater lt d keys x j) false (final-out (λ i. not (greater lt d keys x i)) n h j l) in
+      (rw (g, and-false (not (smaller lt d keys x j))), O .asym x (getD keys j d) g)
+
+  module _ (sorted : NoneBelow (drops lt d keys) n) where
+    rise : (i j : ℕ) → i ≤ j → j < n → lt (getD keys j d) (getD keys i d) ≡ false
+    rise = rises lt O d keys n sorted
+
+    -- ---- the nearest key
+
+    pub nearest : (opt : FindOption) → place lt d opt keys n x < n → Nearest lt d opt keys n x (place lt d opt keys n x)
+    nearest RoundUp h =
+        let p = place lt d RoundUp keys n x in
+        record {
+          kept = h;
+          side = up-side h;
+          nearest = λ j l e. rise p j (first-least (λ i. not (smaller lt d keys x i)) n j l (rw e)) l;
+          lowest = λ j l e. ⊎-elim
+              (λ (b : j < p). absurd (true-false _ (O .lt-le (getD keys j d) x (getD keys p d) (up-under j l b) (up-side h)) (equal-at (getD keys p d) j e .0)))
+              (λ (b : p ≤ j). b)
+              (below-or j p);
+        }
+    nearest RoundDown h =
+        let p = place lt d RoundDown keys n x in
+        record {
+          kept = h;
+          side = down-side h;
+          nearest = λ j l e. rise j p (final-most (λ i. not (greater lt d keys x i)) n j l (rw e)) h;
+          highest = λ j l e. ⊎-elim
+              (λ (b : p < j). absurd (true-false _ (O .le-lt (getD keys p d) x (getD keys j d) (down-side h) (down-over j l b)) (equal-at (getD keys p d) j e .1)))
+              (λ (b : j ≤ p). b)
+              (below-or p j);
+        }
+
+    -- and no other
+    pub nearest-is : (opt : FindOption) (p : ℕ) → Nearest lt d opt keys n x p → place lt d opt keys n x ≡ p
+    nearest-is RoundUp p N =
+        let w : p ≤ n = omega (arith, N .kept) in
+        first-is (λ i. not (smaller lt d keys x i)) n p w
+        (λ j l. rw (under j l))
+        (λ l. rw (N .side))
+      where
+        under : (j : ℕ) → j < p → smaller lt d keys x j ≡ true
+        under j l = pick (smaller lt d keys x j) refl
+          where
+            pick : (b : Bool) → smaller lt d keys x j ≡ b → b ≡ true
+            pick true e = refl
+            pick false e =
+                let k : j < n = omega (arith, N .kept) in
+                absurd (omega (arith, N .lowest j k (rw (N .nearest j k e, rise j p (omega arith) (N .kept)))))
+    nearest-is RoundDown p N =
+        final-is (λ i. not (greater lt d keys x i)) n p (N .kept) (rw (N .side)) (λ j a l. rw (over j a l))
+      where
+        over : (j : ℕ) → p < j → j < n → greater lt d keys x j ≡ true
+        over j a l = pick (greater lt d keys x j) refl
+          where
+            pick : (b : Bool) → greater lt d keys x j ≡ b → b ≡ true
+            pick true e = refl
+            pick false e = absurd (omega (arith, N .highest j l (rw (N .nearest j l e, rise p j (omega arith) l))))
+
+    -- ---- the rule in words
+
+    -- before an equal key none is above x, and after it none is below
+    before-equal : (i j : ℕ) → j ≤ i → i < n → greater lt d keys x i ≡ false → greater lt d keys x j ≡ false
+    before-equal i j h l e = other _ (λ g. true-false _ (O .lt-le x (getD keys j d) (getD keys i d) g (rise j i h l)) e)
+
+    after-equal : (i j : ℕ) → i ≤ j → j < n → smaller lt d keys x i ≡ false → smaller lt d keys x j ≡ false
+    after-equal i j h l e = other _ (λ s. true-false _ (O .le-lt (getD keys i d) (getD keys j d) x (rise i j h l) s) e)
+
+    pub in-words : (opt : FindOption) → place lt d opt keys n x ≡ inWords lt d opt keys n x
+    in-words RoundUp = go (ltb (first (equal lt d keys x) n) n) refl
+      where
+        q : ℕ
+        q = first (equal lt d keys x) n
+
+        g : ℕ
+        g = first (greater lt d keys x) n
+
+        go : (b : Bool) → ltb q n ≡ b → place lt d RoundUp keys n x ≡ cond b q g
+        go true e =
+            let l = ltb-true q n e in
+            let here = equal-at x q (first-holds (equal lt d keys x) n l) in
+            first-is (λ i. not (smaller lt d keys x i)) n q (first-within (equal lt d keys x) n)
+            (λ j h. rw (smaller-at j (first-under (equal lt d keys x) n j (omega arith) h) (before-equal q j (omega arith) l (here .1))))
+            (λ _. rw (here .0))
+        go false e =
+            let none = first-out (equal lt d keys x) n (ltb-false q n e) in
+            let w = first-within (greater lt d keys x) n in
+            first-is (λ i. not (smaller lt d keys x i)) n g w
+            (λ j h. let l : j < n = omega arith in rw (smaller-at j (none j l) (first-under (greater lt d keys x) n j l h)))
+            (λ l. rw (O .asym x (getD keys g d) (first-holds (greater lt d keys x) n l)))
+    in-words RoundDown = go (ltb (final (equal lt d keys x) n) n) refl
+      where
+        q : ℕ
+        q = final (equal lt d keys x) n
+
+        s : ℕ
+        s = final (smaller lt d keys x) n
+
+        go : (b : Bool) → ltb q n ≡ b → place lt d RoundDown keys n x ≡ cond b q s
+        go true e =
+            let l = ltb-true q n e in
+            let here = equal-at x q (final-holds (equal lt d keys x) n l) in
+            final-is (λ i. not (greater lt d keys x i)) n q l (rw (here .1))
+            (λ j a b. rw (greater-at j (final-over (equal lt d keys x) n j b a) (after-equal q j (omega arith) b (here .0))))
+        go false e =
+            let none = final-out (equal lt d keys x) n (ltb-false q n e) in
+            ⊎-elim
+            (λ (l : s < n). final-is (λ i. not (greater lt d keys x i)) n s l
+            (rw (O .asym (getD keys s d) x (final-holds (smaller lt d keys x) n l)))
+            (λ j a b. rw (greater-at j (none j b) (final-over (smaller lt d keys x) n j b a))))
+            (λ (h : n ≤ s).
+            let out = final-out (smaller lt d keys x) n h in
+            rw (final-none (smaller lt d keys x) n out)
+            (final-none (λ i. not (greater lt d keys x i)) n (λ j l. rw (greater-at j (none j l) (out j l)))))
+            (below-or s n)

@@ -45,7 +45,8 @@ pub fn find_ts(
             let n = table.count;
             let at_seq = inner::seqs::place(seqs, n, seq, find_opt);
             if at_seq < n {
-                FoundTs::At(Second(secs[at_seq]))
+                let second = secs[at_seq];
+                FoundTs::At(Second(second))
             } else {
                 FoundTs::Nothing
             }
@@ -70,7 +71,8 @@ pub fn find_seq(
             let n = table.count;
             let at_sec = inner::secs::place(secs, n, ts, find_opt);
             if at_sec < n {
-                FoundSeq::At(Seq(seqs[at_sec]))
+                let sequence = seqs[at_sec];
+                FoundSeq::At(Seq(sequence))
             } else {
                 FoundSeq::Nothing
             }

@@ -1,4 +1,4 @@
--- The one law on the first index at which a test holds: it is i, where the test fails below i, and holds at i if i is below n.
+-- Laws on the first index at which a test holds. The one that makes it: it is i, where the test fails below i, and holds at i if i is below n.
 use mathlib.Core.Path.{_≡_, refl}
 use mathlib.Core.Logic.{⊎-elim}
 use mathlib.Core.Bool.{Bool, true, false, cond}
@@ -6,6 +6,7 @@ use Prim.Native.Nat.{ℕ, zero, suc, _+_, _≤_, _<_}
 use native.Mathlib.Nat.{eq-or-lt-of-le}
 use native.Mathlib.Omega.{arith}
 use Rattle.order.specs.First.{firstFrom, first}
+use Rattle.order.proofs.Bools.{other}
 
 from-is : (t : ℕ → Bool) (n k i : ℕ) → k ≤ i → i ≤ k + n → ((j : ℕ) → k ≤ j → j < i → t j ≡ false) → (i < k + n → t i ≡ true) → firstFrom t k n ≡ i
 unfolding firstFrom
@@ -26,6 +27,19 @@ first-none t n i h out = first-is t n n (omega arith) (λ j l. out j (omega arit
 pub first-hit : (t : ℕ → Bool) (n i : ℕ) → i < n → ((j : ℕ) → j < i → t j ≡ false) → t i ≡ true → first t n ≡ i
 first-hit t n i h out hit = first-is t n i (omega arith) out (λ _. hit)
 
+-- it is at most n
+pub first-within : (t : ℕ → Bool) (n : ℕ) → first t n ≤ n
+unfolding firstFrom
+first-within t n = omega (arith, from-within n 0)
+  where
+    from-within : (m k : ℕ) → firstFrom t k m ≤ k + m
+    from-within zero k = omega arith
+    from-within (suc m) k = go (t k) (from-within m (suc k))
+      where
+        go : (b : Bool) → firstFrom t (suc k) m ≤ suc k + m → cond b k (firstFrom t (suc k) m) ≤ k + suc m
+        go true h = omega arith
+        go false h = omega arith
+
 -- where the test holds at j, the first index is not above j
 from-le : (t : ℕ → Bool) (n k j : ℕ) → k ≤ j → j < k + n → t j ≡ true → firstFrom t k n ≤ j
 unfolding firstFrom
@@ -39,13 +53,30 @@ from-le t (suc n) k j kj jk hit =
     pick true h = kj
     pick false h = h
 
+-- a found index is one at which the test holds
+from-holds : (t : ℕ → Bool) (n k : ℕ) → firstFrom t k n < k + n → t (firstFrom t k n) ≡ true
+unfolding firstFrom
+from-holds t zero k h = absurd (omega arith)
+from-holds t (suc n) k h = go (t k) refl h (λ l. from-holds t n (suc k) (omega arith))
+  where
+    go : (b : Bool) → t k ≡ b → cond b k (firstFrom t (suc k) n) < k + suc n → (firstFrom t (suc k) n < k + suc n → t (firstFrom t (suc k) n) ≡ true)
+        → t (cond b k (firstFrom t (suc k) n)) ≡ true
+    go true e h more = e
+    go false e h more = more h
+
+pub first-holds : (t : ℕ → Bool) (n : ℕ) → first t n < n → t (first t n) ≡ true
+first-holds t n h = from-holds t n 0 (omega arith)
+
+pub first-least : (t : ℕ → Bool) (n j : ℕ) → j < n → t j ≡ true → first t n ≤ j
+first-least t n j l hit = from-le t n 0 j (omega arith) (omega arith) hit
+
+-- below it the test fails
+pub first-under : (t : ℕ → Bool) (n j : ℕ) → j < n → j < first t n → t j ≡ false
+first-under t n j l h = other (t j) (λ hit. absurd (omega (arith, first-least t n j l hit)))
+
 -- where there is no hit the test fails all along
 pub first-out : (t : ℕ → Bool) (n : ℕ) → n ≤ first t n → (j : ℕ) → j < n → t j ≡ false
-first-out t n h j l = go (t j) refl
-  where
-    go : (b : Bool) → t j ≡ b → b ≡ false
-    go true e = absurd (omega (arith, from-le t n 0 j (omega arith) (omega arith) e))
-    go false e = refl
+first-out t n h j l = first-under t n j l (omega arith)
 
 -- tests that agree below n have the same first index
 pub first-same : (t u : ℕ → Bool) (n : ℕ) → ((j : ℕ) → j < n → t j ≡ u j) → first t n ≡ first u n

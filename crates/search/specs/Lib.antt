@@ -1,1 +1,1 @@
-pub mod Inner
+pub mod Keys

@@ -1,3 +1,3 @@
-// The search for the first key that is not below another. Each has a `requires`.
+// The first key that is not below another, and the last that is not above it. Each has a `requires`.
 pub mod secs;
 pub mod seqs;

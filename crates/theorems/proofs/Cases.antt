@@ -40,6 +40,11 @@ cases = record {
   log = refl;
   tally = refl;
   P12 = (refl, refl, refl, refl);
+  equal-seconds = ((refl, refl), (refl, refl), (refl, refl));
+  equal-sequences = (refl, refl);
+  equals-first = ((refl, refl), (refl, refl));
+  equals-last = ((refl, refl), (refl, refl));
+  all-equal = ((refl, refl), (refl, refl), (refl, refl), (refl, refl));
   runOnly = (refl, refl, refl, refl);
   order = (refl, refl);
 }

@@ -13,10 +13,11 @@ use Rattle.gorilla.specs.Parser.{read}
 use Rattle.gorilla.specs.Reading.{Pairs, readCode}
 use Rattle.limits.specs.Settings.{roomOf}
 use Rattle.fresh.specs.Fresh.{freshTable, emptyTable}
+use Rattle.tracker.specs.declared.Seq.{Seq}
 use Rattle.tracker.specs.declared.Second.{Second}
 use Rattle.tracker.specs.declared.TrackedSeq.{TrackedSeq}
 use Rattle.tracker.specs.declared.LastRecorded.the-variants.{At}
-use Rattle.lookup.specs.Find.{Partner, partner, nothing, findTs}
+use Rattle.lookup.specs.Find.{Partner, partner, nothing, findTs, findSeq}
 use Rattle.lookup.specs.declared.FindOption.{FindOption}
 use Rattle.lookup.specs.declared.FindOption.the-variants.{RoundUp, RoundDown}
 use Rattle.offers.specs.Offer.{Outcome, wentBack, tooSoon, offerTo}
@@ -33,9 +34,12 @@ use Rattle.theorems.specs.Run.{offered, keptIn, ranTo}
 abbrev pub second : ℕ → Second
 second s = record { 0 = pos s }
 
+abbrev pub seqNo : ℕ → Seq
+seqNo q = record { 0 = q }
+
 -- a pair of a sequence and a second
 abbrev pub pair : ℕ → ℕ → TrackedSeq
-pair seq s = record { seq = record { 0 = seq }; ts = second s }
+pair seq s = record { seq = seqNo seq; ts = second s }
 
 abbrev pub pairsIn : List TrackedSeq → Pairs
 pairsIn l = record { seqs = map (λ r. r .seq .0) l; secs = map (λ r. r .ts .0) l }
@@ -90,7 +94,18 @@ Skips reason w r = offerTo w (r .seq) (r .ts) ≡ gave reason
 
 -- `find_ts` of a sequence
 abbrev pub Finds : Table → ℕ → FindOption → Partner Second → Type 0
-Finds w seq opt found = findTs (w .state) (w .seqs) (w .secs) (record { 0 = seq }) opt ≡ gave found
+Finds w seq opt found = findTs (w .state) (w .seqs) (w .secs) (seqNo seq) opt ≡ gave found
+
+-- `find_seq` of a second
+abbrev pub FindsSeq : Table → ℕ → FindOption → Partner Seq → Type 0
+FindsSeq w s opt found = findSeq (w .state) (w .seqs) (w .secs) (second s) opt ≡ gave found
+
+-- a sequence, or a second, asked both ways of a table of these pairs: the partner with RoundUp, and that with RoundDown
+abbrev pub BothTs : List TrackedSeq → ℕ → Partner Second → Partner Second → Type 0
+BothTs l seq up down = Finds (offeredAll 5 0 l) seq RoundUp up × Finds (offeredAll 5 0 l) seq RoundDown down
+
+abbrev pub BothSeq : List TrackedSeq → ℕ → Partner Seq → Partner Seq → Type 0
+BothSeq l s up down = FindsSeq (offeredAll 5 0 l) s RoundUp up × FindsSeq (offeredAll 5 0 l) s RoundDown down
 
 -- ---- the table, each case under the words of the rules
 
@@ -157,6 +172,26 @@ pub record Cases : Type 0 where
       × Finds (offeredAll 4 0 (firstOf 5)) 2 RoundDown (partner (second 10))
       × Finds (offeredAll 4 0 (firstOf 5)) 6 RoundUp nothing
       × Finds (offeredAll 4 0 (firstOf 5)) 0 RoundDown nothing
+  -- three equal seconds: up the lowest position, down the highest; beside them the first greater and the last smaller key
+  pub equal-seconds :
+      BothSeq (pair 1 10 ∷ pair 2 20 ∷ pair 3 20 ∷ pair 4 20 ∷ pair 5 30 ∷ []) 20 (partner (seqNo 2)) (partner (seqNo 4))
+      × BothSeq (pair 1 10 ∷ pair 2 20 ∷ pair 3 20 ∷ pair 4 20 ∷ pair 5 30 ∷ []) 19 (partner (seqNo 2)) (partner (seqNo 1))
+      × BothSeq (pair 1 10 ∷ pair 2 20 ∷ pair 3 20 ∷ pair 4 20 ∷ pair 5 30 ∷ []) 21 (partner (seqNo 5)) (partner (seqNo 4))
+  -- three equal sequences
+  pub equal-sequences : BothTs (pair 1 10 ∷ pair 2 20 ∷ pair 2 30 ∷ pair 2 40 ∷ pair 3 50 ∷ []) 2 (partner (second 20)) (partner (second 40))
+  -- equals at the first position, and at the last
+  pub equals-first :
+      BothSeq (pair 1 10 ∷ pair 2 10 ∷ pair 3 20 ∷ []) 10 (partner (seqNo 1)) (partner (seqNo 2))
+      × BothTs (pair 1 10 ∷ pair 1 20 ∷ pair 2 30 ∷ []) 1 (partner (second 10)) (partner (second 20))
+  pub equals-last :
+      BothSeq (pair 1 10 ∷ pair 2 20 ∷ pair 3 20 ∷ []) 20 (partner (seqNo 2)) (partner (seqNo 3))
+      × BothTs (pair 1 10 ∷ pair 2 20 ∷ pair 2 30 ∷ []) 2 (partner (second 20)) (partner (second 30))
+  -- all keys equal; beside them there is nothing on one side
+  pub all-equal :
+      BothSeq (pair 1 10 ∷ pair 2 10 ∷ pair 3 10 ∷ []) 10 (partner (seqNo 1)) (partner (seqNo 3))
+      × BothTs (pair 4 10 ∷ pair 4 20 ∷ pair 4 30 ∷ []) 4 (partner (second 10)) (partner (second 30))
+      × BothTs (pair 4 10 ∷ pair 4 20 ∷ pair 4 30 ∷ []) 3 (partner (second 10)) nothing
+      × BothTs (pair 4 10 ∷ pair 4 20 ∷ pair 4 30 ∷ []) 5 nothing (partner (second 30))
   -- run only, in the sequences (array 0): count 2, the first value, then byte 80 gives 8 with width 7; no byte gives 6; count 9 and byte 01 gives 7 at index 8. Input 02 prints `refused 2`
   pub runOnly :
       DecodeTells 9 (begun 2 ++ replicate 8 0 ++ (0x80 ∷ [])) (refused (8 ∷ 0 ∷ 1 ∷ 7 ∷ []))

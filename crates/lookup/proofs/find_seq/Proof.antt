@@ -24,13 +24,13 @@ ok c =
     fine (a .table) (a .seqs .now) (a .secs .now) (is-good c)
 
 place-requires : tie.Need-place-requires
-place-requires c κs = (count-secs _ _ _ (ok c .state), ok c .pairs .secs-rise)
+place-requires c κs = (count-secs _ _ _ (ok c .state), ok c .pairs .secs-rise, ok c .pairs .inside)
 
-mul-t13 : tie.Need-mul-t13
-mul-t13 c = omega (arith, count-seqs _ _ _ (ok (c .before .before) .state))
+mul-sequence : tie.Need-mul-sequence
+mul-sequence c = omega (arith, count-seqs _ _ _ (ok (c .before .before) .state))
 
-shared-slice-read-t15 : tie.Need-shared-slice-read-t15
-shared-slice-read-t15 c = omega (arith, count-seqs _ _ _ (ok (c .before .before .before) .state))
+shared-slice-read-sequence : tie.Need-shared-slice-read-sequence
+shared-slice-read-sequence c = omega (arith, count-seqs _ _ _ (ok (c .before .before .before) .state))
 
 enum-known-checked : tie.Need-enum-known-checked
 enum-known-checked c = search needs
@@ -53,8 +53,8 @@ find-seq-spec =
     check-requires
     enum-told
     place-requires
-    mul-t13
-    shared-slice-read-t15
+    mul-sequence
+    shared-slice-read-sequence
     enum-known-checked
     returns
     returns-2

@@ -29,11 +29,11 @@ ok c =
 place-requires : tie.Need-place-requires
 place-requires c κs = (count-seqs _ _ _ (ok c .state), ok c .pairs .seqs-rise)
 
-mul-t13 : tie.Need-mul-t13
-mul-t13 c = omega (arith, count-secs _ _ _ (ok (c .before .before) .state))
+mul-second : tie.Need-mul-second
+mul-second c = omega (arith, count-secs _ _ _ (ok (c .before .before) .state))
 
-shared-slice-copy-out-t15 : tie.Need-shared-slice-copy-out-t15
-shared-slice-copy-out-t15 c = omega (arith, count-secs _ _ _ (ok (c .before .before) .state))
+shared-slice-copy-out-second : tie.Need-shared-slice-copy-out-second
+shared-slice-copy-out-second c = omega (arith, count-secs _ _ _ (ok (c .before .before) .state))
 
 enum-known-checked : tie.Need-enum-known-checked
 enum-known-checked c = search needs
@@ -43,7 +43,7 @@ returns c =
     let found = c .before .before in
     let good = found .before in
     let a = good .before .before .before .before .args in
-    rw (is-good good, ← found .place .ensures, lt-ltb _ _ (c .before .if1 .taken), round (getD (a .secs .now) (found .place .result) (pos 0)) (c .t15 .given))
+    rw (is-good good, ← found .place .ensures, lt-ltb _ _ (c .before .if1 .taken), round (getD (a .secs .now) (found .place .result) (pos 0)) (c .second .given))
 
 returns-2 : tie.Need-returns-2
 returns-2 c = rw (is-good (c .before .before), ← c .before .place .ensures, le-ltb _ _ (c .if1 .left))
@@ -58,8 +58,8 @@ find-ts-spec =
     check-requires
     enum-told
     place-requires
-    mul-t13
-    shared-slice-copy-out-t15
+    mul-second
+    shared-slice-copy-out-second
     enum-known-checked
     returns
     returns-2

@@ -4,26 +4,22 @@ ghost use Prim.Native.Nat.{_≤_};
 ghost use lib.IntN.{pos};
 ghost use lib.ListN.{length};
 ghost use lib.Signed.{ltZ};
-ghost use Rattle.order.specs.Order.{drops};
+ghost use Rattle.order.specs.Order.{drops, secOutside};
 ghost use Rattle.order.specs.Inner.{NoneBelow};
 ghost use Rattle.lookup.specs.Find.{place};
 use crate::FindOption;
-use search::inner::secs::lower;
+use search::inner::secs::first_not_below;
+use search::inner::secs::last_not_above;
 use tracker::Second;
 
+// The position that answers, or n.
 pub fn place(secs: &[i64], n: usize, ts: Second, find_opt: FindOption) -> usize
-    requires { ⌜ (n ≤ length (now secs)) × NoneBelow (drops ltZ (pos 0) (now secs)) n ⌝ }
+    requires { ⌜ (n ≤ length (now secs)) × NoneBelow (drops ltZ (pos 0) (now secs)) n × NoneBelow (secOutside (now secs)) n ⌝ }
     ensures { λ r. ⌜ r ≡ place ltZ (pos 0) «find_opt» (now (secs .entry)) n (ts .0) ⌝ }
 {
     let x = ts.0;
-    let lo = lower(secs, n, x);
-    if lo < n {
-        if secs[lo] <= x {
-            return lo;
-        }
-    }
     match find_opt {
-        FindOption::RoundUp => lo,
-        FindOption::RoundDown => { if lo == 0 { n } else { lo - 1 } }
+        FindOption::RoundUp => first_not_below(secs, n, x),
+        FindOption::RoundDown => last_not_above(secs, n, x),
     }
 }

@@ -7,7 +7,8 @@ ghost use Rattle.order.specs.Order.{drops};
 ghost use Rattle.order.specs.Inner.{NoneBelow};
 ghost use Rattle.lookup.specs.Find.{place};
 use crate::FindOption;
-use search::inner::seqs::lower;
+use search::inner::seqs::first_not_below;
+use search::inner::seqs::last_not_above;
 use tracker::Seq;
 
 // The position that answers, or n.
@@ -16,14 +17,8 @@ pub fn place(seqs: &[u64], n: usize, seq: Seq, find_opt: FindOption) -> usize
     ensures { λ r. ⌜ r ≡ place ltb 0 «find_opt» (now (seqs .entry)) n (seq .0) ⌝ }
 {
     let x = seq.0;
-    let lo = lower(seqs, n, x);
-    if lo < n {
-        if seqs[lo] <= x {
-            return lo;
-        }
-    }
     match find_opt {
-        FindOption::RoundUp => lo,
-        FindOption::RoundDown => { if lo == 0 { n } else { lo - 1 } }
+        FindOption::RoundUp => first_not_below(seqs, n, x),
+        FindOption::RoundDown => last_not_above(seqs, n, x),
     }
 }

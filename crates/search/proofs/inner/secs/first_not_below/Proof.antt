@@ -9,8 +9,8 @@ use mir.Val.{toZ, ofZ}
 use mir.Facts.{toZ-ofZ}
 use Rattle.order.proofs.Order.{int-order, round}
 use Rattle.search.proofs.Bound.{Bracket, start, up, down, finish}
-use Rattle.search.proofs.inner.secs.lower.Statement.{statement}
-use Rattle.search.proofs.inner.secs.lower.Tie as tie
+use Rattle.search.proofs.inner.secs.first_not_below.Statement.{statement}
+use Rattle.search.proofs.inner.secs.first_not_below.Tie as tie
 
 abbrev Inv-loop : tie.InvT-loop
 Inv-loop secs n x lo₀ hi₀ lo hi = Bracket ltZ (pos 0) secs (toZ w64 x) n lo hi
@@ -56,8 +56,8 @@ loop-again-2 c = down _ _ _ _ _ _ _ (c .before .before .before .loop .inv) int-o
 returns : tie.Need-returns Inv-loop μ-loop
 returns c = rw (toZ-ofZ (c .before .before .fits .x)) at (finish _ _ _ _ _ _ _ (c .before .loop .inv) (c .loop-test .left))
 
-pub lower-spec : {M : Type 1} → statement M
-lower-spec =
+pub first-not-below-spec : {M : Type 1} → statement M
+first-not-below-spec =
     tie.close
     (tie.spec
     Inv-loop

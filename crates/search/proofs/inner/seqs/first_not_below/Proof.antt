@@ -4,8 +4,8 @@ use borrow.Author.Tests.{lt-ltb, le-ltb}
 use lib.Dec.{ltb}
 use Rattle.order.proofs.Order.{nat-order}
 use Rattle.search.proofs.Bound.{Bracket, start, up, down, finish}
-use Rattle.search.proofs.inner.seqs.lower.Statement.{statement}
-use Rattle.search.proofs.inner.seqs.lower.Tie as tie
+use Rattle.search.proofs.inner.seqs.first_not_below.Statement.{statement}
+use Rattle.search.proofs.inner.seqs.first_not_below.Tie as tie
 
 abbrev Inv-loop : tie.InvT-loop
 Inv-loop seqs n x lo₀ hi₀ lo hi = Bracket ltb 0 seqs x n lo hi
@@ -46,8 +46,8 @@ loop-again-2 c = down _ _ _ _ _ _ _ (c .before .before .before .loop .inv) nat-o
 returns : tie.Need-returns Inv-loop μ-loop
 returns c = finish _ _ _ _ _ _ _ (c .before .loop .inv) (c .loop-test .left)
 
-pub lower-spec : {M : Type 1} → statement M
-lower-spec =
+pub first-not-below-spec : {M : Type 1} → statement M
+first-not-below-spec =
     tie.close
     (tie.spec
     Inv-loop
