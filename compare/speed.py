@@ -79,10 +79,11 @@ def table(head, rows, times):
     return "\n".join(lines) + "\n"
 
 
-def searched(found, n):
-    """1,000 lookups without the check of the table."""
-    row = found[f"1,000 lookups, mixed, {n}"]
-    return {"rust": row["rust"], "ours": row["ours"] - found[f"1,000 checks, mixed, {n}"]["ours"]}
+def searched(found, name):
+    """The row of 1,000 lookups without the check of the table."""
+    row, data = found[name], name.split(", ", 1)[1]
+    check = found[f"1,000 checks, {data}"]["ours"]
+    return name.replace("1,000 lookups", "the search alone"), {"rust": row["rust"], "ours": row["ours"] - check}
 
 
 def growth(found):
@@ -100,7 +101,7 @@ def page(found, times, digest):
         return [(name, row) for name, row in found.items() if part(name)]
 
     # the difference of two times is mostly noise, so that the searches alone are counted and not timed
-    searches = [(f"the search alone, mixed, {n}", searched(found, n)) for n in (1, 512, 2048, 8192)]
+    searches = [searched(found, name) for name in found if "lookups" in name]
     one, full = (found[f"1,000 checks, mixed, {n}"]["ours"] / 1000 for n in (1, 8192))
     check = (full - one) / 8191
     return "\n".join([
@@ -112,7 +113,8 @@ def page(found, times, digest):
         table("Work", rows(lambda n: "offers" in n), times),
         "## Lookups\n",
         "The rules (docs/RULES.md) have every call check the whole table, so ours grow with the kept pairs and the Rust's do not. "
-        f"The check takes {check:.1f} instructions a kept pair. The search alone is what 1,000 lookups take beyond 1,000 calls of `skut_check` on the same table; it is counted only.\n",
+        f"The check takes {check:.1f} instructions a kept pair. The search alone is what 1,000 lookups take beyond 1,000 calls of `skut_check` on the same table; it is counted only. "
+        "Lookups round down, those marked up round up. Equal: all pairs are equal, and their sequence is asked for.\n",
         table("Work, data, pairs", rows(lambda n: "lookups" in n) + searches, times),
         "## Growth: our instructions a pair\n",
         growth(found),

@@ -67,7 +67,8 @@ class Table:
         self.records.add("V", u32(len(data)) + u64(digest(data)), saves=1)
 
     def find(self, seqs, secs):
-        """Both lookups, both roundings. Among equal keys the Rust may answer any: all their partners are stored."""
+        """Both lookups, both roundings. Among equal keys the Rust may answer any: the partners of all are stored, from the lowest position to
+        the highest, each once."""
         self.find_by("F", "findts", seqs, self.state.pairs, u64, i64s)
         self.find_by("K", "findseq", secs, [(sec, seq) for seq, sec in self.state.pairs], i64, u64s)
 
@@ -75,7 +76,7 @@ class Table:
         asked = [(key, way) for key in keys for way in WAYS]
         for (key, way), answer in zip(asked, self.ask([f"{command} {key} {way}" for key, way in asked])):
             answers = [] if answer == "none" else [int(answer)]
-            equals = sorted({partner for k, partner in pairs if k == key})
+            equals = list(dict.fromkeys(partner for k, partner in pairs if k == key))
             if equals:
                 if answers[0] not in equals:
                     raise ValueError(f"{command} {key} {way}: {answer} is no partner of an equal key")
@@ -157,7 +158,7 @@ def settings(oracle, records, chance):
 
 
 def worked(oracle, records):
-    """The cases P8 to P12 of docs/RULES.md, and a second that is the last recorded one: recorded at interval 0, too soon at 1."""
+    """The cases P8 to P12 of docs/RULES.md, a second that is the last recorded one: recorded at interval 0, too soon at 1; and the cases of equal keys."""
     offers = [(1, 10), (2, 20), (3, 30), (4, 40), (5, 50)]
     for capacity, n, later in ((4, 5, []), (3, 4, [(3, 45)]), (3, 4, [(9, 39)]), (0, 2, [])):
         table = Table(oracle, records, capacity, 0)
@@ -172,6 +173,19 @@ def worked(oracle, records):
         for seq, sec in pairs:
             table.offer(seq, sec)
             table.show()
+    for seqs, secs in (([1, 2, 3, 4, 5], [10, 20, 20, 20, 30]), ([1, 2, 2, 2, 3], [10, 20, 30, 40, 50]), ([1, 2, 3], [10, 10, 20]), ([1, 1, 2], [10, 20, 30]),
+                       ([1, 2, 3], [10, 20, 20]), ([1, 2, 2], [10, 20, 30]), ([1, 2, 3], [10, 10, 10]), ([4, 4, 4], [10, 20, 30])):
+        table = Table(oracle, records, 5, 0)
+        for pair in zip(seqs, secs):
+            table.offer(*pair)
+        table.show()
+        table.find(around(seqs), around(secs))
+
+
+def around(keys):
+    """Keys and their neighbours; those that stand more than once come first."""
+    near = {k + d for k in keys for d in (-1, 0, 1)}
+    return sorted(near, key=lambda k: (keys.count(k) < 2, k))
 
 
 def skips(oracle, records):

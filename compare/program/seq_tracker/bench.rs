@@ -77,7 +77,7 @@ impl Bench {
     }
 }
 
-/// Regular data, of which every code is one bit, and mixed data.
+/// Regular data, of which every code is one bit, mixed data, and equal pairs.
 fn sample(data: &str, n: usize) -> SequenceTracker {
     let chance = &mut Chance::new(88172645463325252);
     let (mut seq, mut sec) = (1000u64, 1_700_000_000i64);
@@ -85,9 +85,13 @@ fn sample(data: &str, n: usize) -> SequenceTracker {
     for _ in 0..n {
         seqs.push(seq);
         secs.push(sec);
-        let regular = data == "regular";
-        seq += if regular { 64 } else { chance.below(5000) };
-        sec += if regular { 60 } else { 60 + chance.below(40) as i64 };
+        let (more, later) = match data {
+            "regular" => (64, 60),
+            "mixed" => (chance.below(5000), 60 + chance.below(40) as i64),
+            _ => (0, 0),
+        };
+        seq += more;
+        sec += later;
     }
     theirs::table(8192, 60, &seqs, &secs)
 }
@@ -105,6 +109,11 @@ fn rust_decode(bytes: &[u8]) -> Result<SequenceTracker, String> {
 #[inline(never)]
 fn rust_find(t: &SequenceTracker, seqs: &[u64]) -> i64 {
     seqs.iter().map(|&q| t.find_ts(q, FindOption::RoundDown).map_or(0, |d| d.timestamp())).fold(0, i64::wrapping_add)
+}
+
+#[inline(never)]
+fn rust_find_up(t: &SequenceTracker, seqs: &[u64]) -> i64 {
+    seqs.iter().map(|&q| t.find_ts(q, FindOption::RoundUp).map_or(0, |d| d.timestamp())).fold(0, i64::wrapping_add)
 }
 
 fn images(bench: &mut Bench, data: &str, n: usize) {
@@ -143,19 +152,17 @@ fn images(bench: &mut Bench, data: &str, n: usize) {
     read(name("restore"), Box::new(move |a, b| Table::restore(black_box(&bytes), a, b).state.count));
 }
 
-fn lookups(bench: &mut Bench, n: usize) {
-    let t = sample("mixed", n);
+fn lookups(bench: &mut Bench, data: &str, n: usize) {
+    let t = sample(data, n);
     let ours = table_of(&mut Chance::new(4), &t);
-    let asked: Vec<u64> = (0..1000).map(|i| 1000 + i * 5 * n as u64 / 2).collect();
-    bench.work(
-        &format!("1,000 lookups, mixed, {n}"),
-        || rust_find(black_box(&t), black_box(&asked)),
-        || black_box(&asked).iter().map(|&q| ours.find_ts(q, 1).b as i64).fold(0, i64::wrapping_add),
-    );
+    let asked: Vec<u64> = (0..1000).map(|i| if data == "equal" { 1000 } else { 1000 + i * 5 * n as u64 / 2 }).collect();
+    let find = |round| black_box(&asked).iter().map(|&q| ours.find_ts(q, round).b as i64).fold(0, i64::wrapping_add);
+    bench.work(&format!("1,000 lookups, {data}, {n}"), || rust_find(black_box(&t), black_box(&asked)), || find(1));
+    bench.work(&format!("1,000 lookups up, {data}, {n}"), || rust_find_up(black_box(&t), black_box(&asked)), || find(0));
     // The check alone, as often: a lookup without it is the search.
     let checks = || (0..1000).map(|_| black_box(&ours).check().number).max();
     assert_eq!(checks(), Some(0));
-    bench.alone(&format!("1,000 checks, mixed, {n}"), "ours", checks);
+    bench.alone(&format!("1,000 checks, {data}, {n}"), "ours", checks);
 }
 
 /// 100,000 offers at an interval: the second of each goes by its position. The Rust makes a `DateTime` of each second, as in its own `extend_from`, or has
@@ -196,8 +203,8 @@ pub fn main(timed: bool) {
             images(&mut bench, data, n);
         }
     }
-    for n in [1, 512, 2048, 8192] {
-        lookups(&mut bench, n);
+    for (data, n) in [("mixed", 1), ("mixed", 512), ("mixed", 2048), ("mixed", 8192), ("equal", 8192)] {
+        lookups(&mut bench, data, n);
     }
     // What becomes of them, the interval, and the second at a position. Of those that go back, each that is recorded is followed by 59 below it.
     let kinds: [(&str, u64, fn(i64) -> i64); 3] = [("all recorded", 0, |i| i), ("59 of 60 too soon", 60, |i| i), ("59 of 60 went back", 60, |i| i - i % 60 * 2)];

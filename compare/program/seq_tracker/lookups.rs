@@ -1,4 +1,5 @@
-//! Lookups by sequence and by second. Among equal keys the Rust answers some equal one, and the rules (docs/RULES.md) ask for the lowest.
+//! Lookups by sequence and by second. Among equal keys the Rust answers some equal one; the rules (docs/RULES.md) ask for the lowest position with RoundUp
+//! and the highest with RoundDown.
 use super::super::*;
 use super::chance::{Chance, FIRST_SECOND, LAST_SECOND};
 use super::offers::{shown, table_of};
@@ -24,7 +25,8 @@ fn question<K: Debug>(tally: &mut Tally, kinds: [&'static str; 2], t: &SequenceT
         return;
     }
     let member = theirs.is_some_and(|x| equal.contains(&x));
-    tally.same(kinds[1], input, &(true, found(Some(equal[0]))), &(member, ours));
+    let place = if round == 0 { 0 } else { equal.len() - 1 };
+    tally.same(kinds[1], input, &(true, found(Some(equal[place]))), &(member, ours));
 }
 
 fn by_sequence(tally: &mut Tally, t: &SequenceTracker, ours: &Table, seq: u64) {

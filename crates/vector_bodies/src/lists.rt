@@ -92,20 +92,6 @@ pub fn values_so(b: &[u8], at: usize, n: usize, seqs: &[u64], secs: &[i64]) -> b
     same_pairs(b, at, 8 * n, n, seqs, secs)
 }
 
-// Whether a number is among n of a body.
-pub fn among(b: &[u8], from: usize, n: usize, v: u64) -> bool {
-    let mut at = from;
-    let mut i = 0;
-    while i < n {
-        if u64_at(b, at) == v {
-            return true;
-        }
-        at = after(at, 8);
-        i += 1;
-    }
-    false
-}
-
 // The first n, or all where there are fewer.
 pub fn first_seqs<'a>(s: &'a [u64], n: usize) -> &'a [u64] {
     if n > s.len() {

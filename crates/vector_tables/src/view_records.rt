@@ -8,7 +8,6 @@ use tracker::Second;
 use tracker::Seq;
 use tracker::SequenceTracker;
 use vector_bodies::digest::image_so;
-use vector_bodies::lists::among;
 use vector_bodies::lists::values_so;
 use vector_bytes::i64_at;
 use vector_bytes::part;
@@ -60,11 +59,24 @@ fn way_of(number: usize) -> FindOption {
     FindOption::RoundDown
 }
 
+// A body has n partners from its byte 10 on, of eight bytes each: those of all keys that equal the one asked for, from the lowest position to the highest, or
+// that of the key beside it. RoundUp answers the first of them, RoundDown the last.
+fn partner_so(b: &[u8], v: u64) -> bool {
+    let n = u8_at(b, 9);
+    if n == 0 {
+        return false;
+    }
+    match way_of(u8_at(b, 8)) {
+        FindOption::RoundUp => v == u64_at(b, 10),
+        FindOption::RoundDown => v == u64_at(b, 2 + 8 * n),
+    }
+}
+
 pub fn second_so(b: &[u8], table: SequenceTracker, seqs: &[u64], secs: &[i64]) -> bool {
     match lookup::find_ts(table, seqs, secs, Seq(u64_at(b, 0)), way_of(u8_at(b, 8))) {
         FoundTs::At(s) => {
             let x = s.0;
-            among(b, 10, u8_at(b, 9), signed::as_unsigned(x))
+            partner_so(b, signed::as_unsigned(x))
         }
         FoundTs::Nothing => u8_at(b, 9) == 0,
         FoundTs::Refused(_) => false,
@@ -75,7 +87,7 @@ pub fn seq_so(b: &[u8], table: SequenceTracker, seqs: &[u64], secs: &[i64]) -> b
     match lookup::find_seq(table, seqs, secs, Second(i64_at(b, 0)), way_of(u8_at(b, 8))) {
         FoundSeq::At(s) => {
             let x = s.0;
-            among(b, 10, u8_at(b, 9), x)
+            partner_so(b, x)
         }
         FoundSeq::Nothing => u8_at(b, 9) == 0,
         FoundSeq::Refused(_) => false,
