@@ -106,10 +106,10 @@ enum {
     SKUT_BITS_SHORT = 24        /* fewer bits are left than asked for */
 };
 
-/* How a lookup goes on where no key equals the one asked for. */
+/* Which of the kept keys answers a lookup. */
 enum {
-    SKUT_ROUND_UP = 0,  /* to the next greater key */
-    SKUT_ROUND_DOWN = 1 /* to the next smaller key; any other number does the same */
+    SKUT_ROUND_UP = 0,  /* the first that is not below the one asked for */
+    SKUT_ROUND_DOWN = 1 /* the last that is not above it; any other number does the same */
 };
 
 /* ---- A table */
@@ -139,12 +139,13 @@ struct skut_table_answer skut_extend_from(struct skut_state state, uint64_t *seq
                                           struct skut_state other, const uint64_t *other_seqs, size_t other_seqs_len,
                                           const int64_t *other_secs, size_t other_secs_len);
 
-/* The second of a sequence. a is 1, and b the second by its 64 bits; or a is 0, and there is none. Where no kept sequence is equal, SKUT_ROUND_UP takes
- * the next greater one and SKUT_ROUND_DOWN the next smaller one. Where several are equal, the one at the lowest position answers. Stack: 384 bytes. */
+/* The second of a sequence. a is 1, and b the second by its 64 bits; or a is 0, and there is none. Where several kept sequences are equal to the one asked for,
+ * SKUT_ROUND_UP takes the one at the lowest position and SKUT_ROUND_DOWN the one at the highest. Where none is equal, SKUT_ROUND_UP takes the first greater one
+ * and SKUT_ROUND_DOWN the last smaller one. Stack: 384 bytes. */
 struct skut_answer skut_find_ts(struct skut_state state, const uint64_t *seqs, size_t seqs_len, const int64_t *secs, size_t secs_len, uint64_t seq, uint32_t round);
 
-/* The sequence of a second, likewise: a is 1 and b the sequence, or a is 0. Where several seconds are equal, the one at the lowest position
- * answers. Stack: 384 bytes. */
+/* The sequence of a second, likewise: a is 1 and b the sequence, or a is 0. Of the pairs of one second SKUT_ROUND_UP gives the first one's sequence and
+ * SKUT_ROUND_DOWN the last one's. Stack: 384 bytes. */
 struct skut_answer skut_find_seq(struct skut_state state, const uint64_t *seqs, size_t seqs_len, const int64_t *secs, size_t secs_len, int64_t sec, uint32_t round);
 
 /* Writes the table's image, and a is its length: 21. An image of n pairs has at most 9n + 21 bytes. The bytes are those that slatedb writes, also where

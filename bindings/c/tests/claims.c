@@ -86,9 +86,16 @@ static void lookups(void)
     const int64_t s[] = {10, 20, 20, 30};
     struct skut_state table = skut_offer_pairs(skut_with_config(4, 0).state, ARRAYS, q, 4, s, 4).state;
     answers("skut_find_ts", "the lowest of equal sequences, up", skut_find_ts(table, ARRAYS, 5, SKUT_ROUND_UP), SKUT_DONE, 1, 10, 0);
-    answers("skut_find_ts", "the lowest of equal sequences, down", skut_find_ts(table, ARRAYS, 5, SKUT_ROUND_DOWN), SKUT_DONE, 1, 10, 0);
+    answers("skut_find_ts", "the highest of equal sequences, down", skut_find_ts(table, ARRAYS, 5, SKUT_ROUND_DOWN), SKUT_DONE, 1, 20, 0);
     answers("skut_find_seq", "the lowest of equal seconds, up", skut_find_seq(table, ARRAYS, 20, SKUT_ROUND_UP), SKUT_DONE, 1, 5, 0);
-    answers("skut_find_seq", "the lowest of equal seconds, down", skut_find_seq(table, ARRAYS, 20, SKUT_ROUND_DOWN), SKUT_DONE, 1, 5, 0);
+    answers("skut_find_seq", "the highest of equal seconds, down", skut_find_seq(table, ARRAYS, 20, SKUT_ROUND_DOWN), SKUT_DONE, 1, 7, 0);
+    answers("skut_find_seq", "any other number takes the highest of equal seconds", skut_find_seq(table, ARRAYS, 20, UINT32_MAX), SKUT_DONE, 1, 7, 0);
+    answers("skut_find_ts", "the greatest number, down", skut_find_ts(table, ARRAYS, UINT64_MAX, SKUT_ROUND_DOWN), SKUT_DONE, 1, 30, 0);
+    answers("skut_find_ts", "the greatest number, up", skut_find_ts(table, ARRAYS, UINT64_MAX, SKUT_ROUND_UP), SKUT_DONE, 0, 0, 0);
+    answers("skut_find_seq", "the greatest second, down", skut_find_seq(table, ARRAYS, INT64_MAX, SKUT_ROUND_DOWN), SKUT_DONE, 1, 9, 0);
+    answers("skut_find_seq", "the greatest second, up", skut_find_seq(table, ARRAYS, INT64_MAX, SKUT_ROUND_UP), SKUT_DONE, 0, 0, 0);
+    answers("skut_find_seq", "the least second, down", skut_find_seq(table, ARRAYS, INT64_MIN, SKUT_ROUND_DOWN), SKUT_DONE, 0, 0, 0);
+    answers("skut_find_seq", "the least second, up", skut_find_seq(table, ARRAYS, INT64_MIN, SKUT_ROUND_UP), SKUT_DONE, 1, 5, 0);
     answers("skut_find_ts", "the next greater", skut_find_ts(table, ARRAYS, 8, SKUT_ROUND_UP), SKUT_DONE, 1, 30, 0);
     answers("skut_find_ts", "the next smaller", skut_find_ts(table, ARRAYS, 8, SKUT_ROUND_DOWN), SKUT_DONE, 1, 20, 0);
     answers("skut_find_ts", "any other number rounds down", skut_find_ts(table, ARRAYS, 8, 2), SKUT_DONE, 1, 20, 0);

@@ -54,6 +54,7 @@ pub(crate) fn main(words: Vec<String>) -> i32 {
     readers::exhaustive(&mut tally);
     offers::exhaustive(&mut tally);
     lists::exhaustive(&mut tally);
+    lookups::exhaustive(&mut tally);
     for _ in 0..rounds {
         bits::random(&mut tally, &mut chance);
         encoders::random(&mut tally, &mut chance);

@@ -17,23 +17,49 @@ fn found(partner: Option<u64>) -> Answer {
     }
 }
 
-/// The Rust's answer and ours to one question: `equal` has the partners of the equal keys, in order.
-fn question<K: Debug>(tally: &mut Tally, kinds: [&'static str; 2], t: &SequenceTracker, key: K, round: u32, theirs: Option<u64>, ours: Answer, equal: &[u64]) {
-    let input = || format!("{key:?}, round {round}, in {}", shown(t));
-    if equal.is_empty() {
-        tally.same(kinds[0], input, &found(theirs), &ours);
+/// What is counted of one kind of lookup: where no key is equal, where one is, and which of several answers.
+struct Kinds {
+    other: &'static str,
+    equal: &'static str,
+    lowest: &'static str,
+    highest: &'static str,
+}
+
+const BY_SEQUENCE: Kinds = Kinds {
+    other: "lookups by sequence",
+    equal: "lookups by a sequence that is there",
+    lowest: "lookups by one of several equal sequences, up",
+    highest: "lookups by one of several equal sequences, down",
+};
+
+const BY_SECOND: Kinds = Kinds {
+    other: "lookups by second",
+    equal: "lookups by a second that is there",
+    lowest: "lookups by one of several equal seconds, up",
+    highest: "lookups by one of several equal seconds, down",
+};
+
+/// The Rust's answer and ours to one question: `equal` has the partners of the equal keys, in order. Either has to be one of them, and ours the one at the
+/// lowest or at the highest position.
+fn question<K: Debug>(tally: &mut Tally, kinds: &Kinds, t: &SequenceTracker, key: K, round: u32, theirs: Option<u64>, ours: Answer, equal: &[u64]) {
+    let input = || format!("{key:?}, round {round}, the Rust {theirs:?}, in {}", shown(t));
+    let (Some(lowest), Some(highest)) = (equal.first(), equal.last()) else {
+        tally.same(kinds.other, input, &found(theirs), &ours);
         return;
+    };
+    let member = |a: Answer| equal.iter().any(|&x| a == found(Some(x)));
+    tally.same(kinds.equal, input, &(true, true), &(member(found(theirs)), member(ours)));
+    let (kind, rule) = if round == 0 { (kinds.lowest, lowest) } else { (kinds.highest, highest) };
+    if lowest != highest {
+        tally.ruled(kind, input, &found(Some(*rule)), &ours);
     }
-    let member = theirs.is_some_and(|x| equal.contains(&x));
-    let place = if round == 0 { 0 } else { equal.len() - 1 };
-    tally.same(kinds[1], input, &(true, found(Some(equal[place]))), &(member, ours));
 }
 
 fn by_sequence(tally: &mut Tally, t: &SequenceTracker, ours: &Table, seq: u64) {
     let equal: Vec<u64> = t.sequence_numbers.iter().zip(&t.timestamps).filter(|p| *p.0 == seq).map(|p| *p.1 as u64).collect();
     for (option, round) in ROUNDS {
         let theirs = t.find_ts(seq, option).map(|d| d.timestamp() as u64);
-        question(tally, ["lookups by sequence", "lookups by a sequence that is there"], t, seq, round, theirs, ours.find_ts(seq, round), &equal);
+        question(tally, &BY_SEQUENCE, t, seq, round, theirs, ours.find_ts(seq, round), &equal);
     }
 }
 
@@ -41,7 +67,28 @@ fn by_second(tally: &mut Tally, t: &SequenceTracker, ours: &Table, sec: i64) {
     let equal: Vec<u64> = t.timestamps.iter().zip(&t.sequence_numbers).filter(|p| *p.0 == sec).map(|p| *p.1).collect();
     for (option, round) in ROUNDS {
         let theirs = t.find_seq(theirs::instant(sec), option);
-        question(tally, ["lookups by second", "lookups by a second that is there"], t, sec, round, theirs, ours.find_seq(sec, round), &equal);
+        question(tally, &BY_SECOND, t, sec, round, theirs, ours.find_seq(sec, round), &equal);
+    }
+}
+
+/// Every table of up to 6 pairs whose sequences and seconds each stay or rise by 2 from one pair to the next, and every key from below the first to above the last.
+pub fn exhaustive(tally: &mut Tally) {
+    let chance = &mut Chance::new(6);
+    for n in 0..=6usize {
+        for steps in 0..1u32 << (2 * n.saturating_sub(1)) {
+            let (mut seqs, mut secs) = (vec![], vec![]);
+            let (mut seq, mut sec) = (1u64, -3i64);
+            for i in 0..n {
+                seqs.push(seq);
+                secs.push(sec);
+                seq += 2 * u64::from(steps >> (2 * i) & 1);
+                sec += 2 * i64::from(steps >> (2 * i + 1) & 1);
+            }
+            let t = theirs::table(8, 0, &seqs, &secs);
+            let ours = table_of(chance, &t);
+            (0..=2 * n as u64 + 1).for_each(|seq| by_sequence(tally, &t, &ours, seq));
+            (-4..=2 * n as i64).for_each(|sec| by_second(tally, &t, &ours, sec));
+        }
     }
 }
 

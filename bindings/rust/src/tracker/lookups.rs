@@ -3,12 +3,12 @@ use super::SequenceTracker;
 use crate::calls::{self, done};
 use crate::{Error, Second, Seq};
 
-/// What a lookup answers where no key is equal to the one asked for.
+/// Which of the kept keys answers a lookup.
 #[derive(Clone, Copy, Debug, PartialEq, Eq, Hash)]
 pub enum FindOption {
-    /// The next higher one.
+    /// The first that is not below the one asked for: of equal keys the one at the lowest position; where none is equal, the first greater.
     RoundUp,
-    /// The next lower one.
+    /// The last that is not above the one asked for: of equal keys the one at the highest position; where none is equal, the last smaller.
     RoundDown,
 }
 
@@ -22,7 +22,8 @@ impl FindOption {
 }
 
 impl SequenceTracker {
-    /// The second of a sequence number. Among equal sequences the first one kept answers.
+    /// The second of a sequence number. Among equal sequences the first one kept answers with `RoundUp`, the last one with `RoundDown`. slatedb promises some
+    /// one of them.
     ///
     /// # What a lookup costs
     ///
@@ -36,7 +37,7 @@ impl SequenceTracker {
     ///
     /// ```no_run
     /// # use skutlaneb::{Error, Second, Seq, SequenceTracker, TrackedSeq};
-    /// /// For each sequence number what `find_ts` answers with `RoundUp`.
+    /// /// For each sequence number what `find_ts` answers with `RoundUp`. With `RoundDown` it is the pair before `partition_point(|pair| pair.seq <= *seq)`.
     /// fn seconds(tracker: &SequenceTracker, asked: &[Seq]) -> Result<Vec<Option<Second>>, Error> {
     ///     tracker.check()?;
     ///     let pairs: Vec<TrackedSeq> = tracker.pairs().collect();
@@ -49,7 +50,8 @@ impl SequenceTracker {
         Ok((found.a == 1).then_some(Second(found.b as i64)))
     }
 
-    /// The sequence number of a second. Among equal seconds the first one kept answers. It costs what [`SequenceTracker::find_ts`] costs.
+    /// The sequence number of a second. Among equal seconds the first one kept answers with `RoundUp`, the last one with `RoundDown`: what stood as of a second is
+    /// asked for with `RoundDown`. It costs what [`SequenceTracker::find_ts`] costs.
     pub fn find_seq(&self, ts: impl Into<Second>, opt: FindOption) -> Result<Option<Seq>, Error> {
         let found = done(calls::find_seq(self.state, &self.seqs, &self.secs, ts.into().0, opt.number()))?;
         Ok((found.a == 1).then_some(Seq(found.b)))

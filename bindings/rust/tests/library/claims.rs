@@ -111,13 +111,13 @@ fn equal_but_other() {
     assert_eq!((one.insert(pair(5, 35)), other.insert(pair(5, 35))), (Ok(Inserted::WentBack), Ok(Inserted::Recorded)));
 }
 
-/// The search that the docs of `find_ts` show, and the same rounding down.
+/// The two searches that the docs of `find_ts` show.
 fn seconds(tracker: &SequenceTracker, seq: Seq) -> Result<(Option<Second>, Option<Second>), Error> {
     tracker.check()?;
     let pairs: Vec<TrackedSeq> = tracker.pairs().collect();
-    let at = pairs.partition_point(|pair| pair.seq < seq);
-    let down = if pairs.get(at).is_some_and(|pair| pair.seq == seq) { Some(at) } else { at.checked_sub(1) };
-    Ok((pairs.get(at).map(|pair| pair.ts), down.map(|at| pairs[at].ts)))
+    let first_not_below = pairs.partition_point(|pair| pair.seq < seq);
+    let first_above = pairs.partition_point(|pair| pair.seq <= seq);
+    Ok((pairs.get(first_not_below).map(|pair| pair.ts), pairs[..first_above].last().map(|pair| pair.ts)))
 }
 
 fn copied() {

@@ -12,7 +12,8 @@ pub const CASES: &[Case] = &[
     ("8,193 pairs become 4,097", halving),
     ("pairs that went back, or came before the interval had passed, are skipped", interval),
     ("lookups take the equal key, or round", lookups),
-    ("among equal keys the first answers", equal_keys),
+    ("among equal keys the first answers up, the last down", equal_keys),
+    ("the greatest and the least key that can be asked for", ends),
     ("an empty table answers nothing", nothing),
     ("a second outside the years 0001 to 9999 is refused by 16", outside),
     ("a sequence below the last kept one is refused by 17", drops),
@@ -106,7 +107,38 @@ fn lookups() {
 fn equal_keys() {
     let tracker = table(8, 0, &[(7, -5), (7, 10), (7, 10), (9, 10)]);
     assert_eq!(tracker.find_ts(7, RoundUp), Ok(Some(Second(-5))));
-    assert_eq!(tracker.find_seq(10, RoundDown), Ok(Some(Seq(7))));
+    assert_eq!(tracker.find_ts(7, RoundDown), Ok(Some(Second(10))));
+    assert_eq!(tracker.find_seq(10, RoundUp), Ok(Some(Seq(7))));
+    assert_eq!(tracker.find_seq(10, RoundDown), Ok(Some(Seq(9))));
+    // Equal keys at the first and at the last position, and nothing else.
+    let tracker = table(8, 0, &[(4, 10), (4, 20), (4, 30)]);
+    for (asked, up, down) in [(3, Some(10), None), (4, Some(10), Some(30)), (5, None, Some(30))] {
+        assert_eq!(tracker.find_ts(asked, RoundUp), Ok(up.map(Second)));
+        assert_eq!(tracker.find_ts(asked, RoundDown), Ok(down.map(Second)));
+    }
+    let tracker = table(8, 0, &[(1, 6), (2, 6), (3, 6)]);
+    for (asked, up, down) in [(5, Some(1), None), (6, Some(1), Some(3)), (7, None, Some(3))] {
+        assert_eq!(tracker.find_seq(asked, RoundUp), Ok(up.map(Seq)));
+        assert_eq!(tracker.find_seq(asked, RoundDown), Ok(down.map(Seq)));
+    }
+}
+
+fn ends() {
+    let tracker = table(8, 0, &[(0, 10), (0, 20), (u64::MAX, 30), (u64::MAX, 40)]);
+    assert_eq!(tracker.find_ts(0, RoundUp), Ok(Some(Second(10))));
+    assert_eq!(tracker.find_ts(0, RoundDown), Ok(Some(Second(20))));
+    assert_eq!(tracker.find_ts(u64::MAX, RoundUp), Ok(Some(Second(30))));
+    assert_eq!(tracker.find_ts(u64::MAX, RoundDown), Ok(Some(Second(40))));
+    assert_eq!(tracker.find_ts(u64::MAX - 1, RoundUp), Ok(Some(Second(30))));
+    assert_eq!(tracker.find_ts(u64::MAX - 1, RoundDown), Ok(Some(Second(20))));
+    for second in [i64::MAX, i64::MAX - 1] {
+        assert_eq!(tracker.find_seq(second, RoundUp), Ok(None));
+        assert_eq!(tracker.find_seq(second, RoundDown), Ok(Some(Seq(u64::MAX))));
+    }
+    for second in [i64::MIN, i64::MIN + 1, -1] {
+        assert_eq!(tracker.find_seq(second, RoundUp), Ok(Some(Seq(0))));
+        assert_eq!(tracker.find_seq(second, RoundDown), Ok(None));
+    }
 }
 
 fn nothing() {
