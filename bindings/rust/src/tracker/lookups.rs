@@ -27,8 +27,8 @@ impl SequenceTracker {
     ///
     /// # What a lookup costs
     ///
-    /// Each one checks the whole table first, some 8 instructions for each kept pair. In 8,192 pairs it takes some 225 times the instructions of slatedb's, in
-    /// 512 some 17 times, in one pair not more than slatedb's (docs/SPEED.md). What to do about it:
+    /// Each one checks the whole table first, some 8 instructions for each kept pair. In 8,192 pairs it takes some 230 times the instructions of slatedb's, in
+    /// 512 some 17 times; in one pair not more than slatedb's, or 4 times where slatedb finds nothing (docs/SPEED.md). What to do about it:
     ///
     /// - Look up rarely: keep an answer that is asked for again, until the next offer.
     /// - Keep the table small, by a smaller capacity; but storage brings a table back with capacity 8,192.
