@@ -114,7 +114,7 @@ def page(found, times, digest):
         "## Lookups\n",
         "The rules (docs/RULES.md) have every call check the whole table, so ours grow with the kept pairs and the Rust's do not. "
         f"The check takes {check:.1f} instructions a kept pair. The search alone is what 1,000 lookups take beyond 1,000 calls of `skut_check` on the same table; it is counted only. "
-        "Lookups round down, those marked up round up. Equal: all pairs are equal, and their sequence is asked for.\n",
+        "All are by sequence; they round down, those marked up round up. Equal: all pairs are equal, and their sequence is asked for, so that every answer is the same.\n",
         table("Work, data, pairs", rows(lambda n: "lookups" in n) + searches, times),
         "## Growth: our instructions a pair\n",
         growth(found),

@@ -88,7 +88,8 @@ fn sample(data: &str, n: usize) -> SequenceTracker {
         let (more, later) = match data {
             "regular" => (64, 60),
             "mixed" => (chance.below(5000), 60 + chance.below(40) as i64),
-            _ => (0, 0),
+            "equal" => (0, 0),
+            _ => panic!("no data of this name: {data}"),
         };
         seq += more;
         sec += later;
@@ -107,13 +108,9 @@ fn rust_decode(bytes: &[u8]) -> Result<SequenceTracker, String> {
 }
 
 #[inline(never)]
-fn rust_find(t: &SequenceTracker, seqs: &[u64]) -> i64 {
-    seqs.iter().map(|&q| t.find_ts(q, FindOption::RoundDown).map_or(0, |d| d.timestamp())).fold(0, i64::wrapping_add)
-}
-
-#[inline(never)]
-fn rust_find_up(t: &SequenceTracker, seqs: &[u64]) -> i64 {
-    seqs.iter().map(|&q| t.find_ts(q, FindOption::RoundUp).map_or(0, |d| d.timestamp())).fold(0, i64::wrapping_add)
+fn rust_find<const UP: bool>(t: &SequenceTracker, seqs: &[u64]) -> i64 {
+    let option = || if UP { FindOption::RoundUp } else { FindOption::RoundDown };
+    seqs.iter().map(|&q| t.find_ts(q, option()).map_or(0, |d| d.timestamp())).fold(0, i64::wrapping_add)
 }
 
 fn images(bench: &mut Bench, data: &str, n: usize) {
@@ -157,8 +154,8 @@ fn lookups(bench: &mut Bench, data: &str, n: usize) {
     let ours = table_of(&mut Chance::new(4), &t);
     let asked: Vec<u64> = (0..1000).map(|i| if data == "equal" { 1000 } else { 1000 + i * 5 * n as u64 / 2 }).collect();
     let find = |round| black_box(&asked).iter().map(|&q| ours.find_ts(q, round).b as i64).fold(0, i64::wrapping_add);
-    bench.work(&format!("1,000 lookups, {data}, {n}"), || rust_find(black_box(&t), black_box(&asked)), || find(1));
-    bench.work(&format!("1,000 lookups up, {data}, {n}"), || rust_find_up(black_box(&t), black_box(&asked)), || find(0));
+    bench.work(&format!("1,000 lookups, {data}, {n}"), || rust_find::<false>(black_box(&t), black_box(&asked)), || find(1));
+    bench.work(&format!("1,000 lookups up, {data}, {n}"), || rust_find::<true>(black_box(&t), black_box(&asked)), || find(0));
     // The check alone, as often: a lookup without it is the search.
     let checks = || (0..1000).map(|_| black_box(&ours).check().number).max();
     assert_eq!(checks(), Some(0));

@@ -18,7 +18,7 @@ use Rattle.order.proofs.Last.{final-is, final-none, final-holds, final-most, fi
 use Rattle.order.proofs.Order.{Order, rises}
 use Rattle.search.specs.Keys.{smaller, greater}
 use Rattle.lookup.specs.Find.{place}
-use Rattle.lookup.specs.Laws.{equal, onSide, inWords, NoKey, NearestUp, NearestDown, Nearest}
+use Rattle.lookup.specs.Laws.{equal, inWords, NoKey, Nearest}
 use Rattle.lookup.specs.declared.FindOption.{FindOption}
 use Rattle.lookup.specs.declared.FindOption.the-variants.{RoundUp, RoundDown}
 
@@ -92,8 +92,8 @@ module _ {K : Type 0} (lt : K → K → Bool) (O : Order lt) (d : K) (keys : Lis
     nearest RoundUp h =
         let p = place lt d RoundUp keys n x in
         record {
-          kept = h;
-          side = up-side h;
+          within = h;
+          not-below = up-side h;
           nearest = λ j l e. rise p j (first-least (λ i. not (smaller lt d keys x i)) n j l (rw e)) l;
           lowest = λ j l e. ⊎-elim
               (λ (b : j < p). absurd (true-false _ (O .lt-le (getD keys j d) x (getD keys p d) (up-under j l b) (up-side h)) (equal-at (getD keys p d) j e .0)))
@@ -103,8 +103,8 @@ module _ {K : Type 0} (lt : K → K → Bool) (O : Order lt) (d : K) (keys : Lis
     nearest RoundDown h =
         let p = place lt d RoundDown keys n x in
         record {
-          kept = h;
-          side = down-side h;
+          within = h;
+          not-above = down-side h;
           nearest = λ j l e. rise j p (final-most (λ i. not (greater lt d keys x i)) n j l (rw e)) h;
           highest = λ j l e. ⊎-elim
               (λ (b : p < j). absurd (true-false _ (O .le-lt (getD keys p d) x (getD keys j d) (down-side h) (down-over j l b)) (equal-at (getD keys p d) j e .1)))
@@ -115,10 +115,10 @@ module _ {K : Type 0} (lt : K → K → Bool) (O : Order lt) (d : K) (keys : Lis
     -- and no other
     pub nearest-is : (opt : FindOption) (p : ℕ) → Nearest lt d opt keys n x p → place lt d opt keys n x ≡ p
     nearest-is RoundUp p N =
-        let w : p ≤ n = omega (arith, N .kept) in
+        let w : p ≤ n = omega (arith, N .within) in
         first-is (λ i. not (smaller lt d keys x i)) n p w
         (λ j l. rw (under j l))
-        (λ l. rw (N .side))
+        (λ l. rw (N .not-below))
       where
         under : (j : ℕ) → j < p → smaller lt d keys x j ≡ true
         under j l = pick (smaller lt d keys x j) refl
@@ -126,10 +126,10 @@ module _ {K : Type 0} (lt : K → K → Bool) (O : Order lt) (d : K) (keys : Lis
             pick : (b : Bool) → smaller lt d keys x j ≡ b → b ≡ true
             pick true e = refl
             pick false e =
-                let k : j < n = omega (arith, N .kept) in
-                absurd (omega (arith, N .lowest j k (rw (N .nearest j k e, rise j p (omega arith) (N .kept)))))
+                let k : j < n = omega (arith, N .within) in
+                absurd (omega (arith, N .lowest j k (rw (N .nearest j k e, rise j p (omega arith) (N .within)))))
     nearest-is RoundDown p N =
-        final-is (λ i. not (greater lt d keys x i)) n p (N .kept) (rw (N .side)) (λ j a l. rw (over j a l))
+        final-is (λ i. not (greater lt d keys x i)) n p (N .within) (rw (N .not-above)) (λ j a l. rw (over j a l))
       where
         over : (j : ℕ) → p < j → j < n → greater lt d keys x j ≡ true
         over j a l = pick (greater lt d keys x j) refl

@@ -8,7 +8,7 @@ use lib.Dec.{ltb}
 use lib.IntN.{ℤ, pos}
 use lib.ListN.{length, getD}
 use lib.Signed.{ltZ}
-use Rattle.told.specs.Told.{Told, gave}
+use Rattle.told.specs.Told.{Told, gave, ifGood}
 use Rattle.limits.specs.Settings.{roomOf}
 use Rattle.order.specs.First.{first, final}
 use Rattle.search.specs.Keys.{smaller, greater}
@@ -16,7 +16,7 @@ use Rattle.tracker.specs.Table.{kept, checkOf}
 use Rattle.tracker.specs.declared.Seq.{Seq}
 use Rattle.tracker.specs.declared.Second.{Second}
 use Rattle.tracker.specs.declared.SequenceTracker.{SequenceTracker}
-use Rattle.lookup.specs.Find.{Partner, partner, nothing, place, secondAt, seqAt, findTs, findSeq}
+use Rattle.lookup.specs.Find.{Partner, partner, nothing, standing, place, secondAt, seqAt, findTs, findSeq}
 use Rattle.lookup.specs.declared.FindOption.{FindOption}
 use Rattle.lookup.specs.declared.FindOption.the-variants.{RoundUp, RoundDown}
 
@@ -43,15 +43,15 @@ module _ {K : Type 0} (lt : K → K → Bool) (d : K) where
 
   -- the key at p is not below x, of the keys that are not below x none is below it, and none of its equals stands at a lower position
   pub record NearestUp (keys : List K) (n : ℕ) (x : K) (p : ℕ) : Type 0 where
-    pub kept : p < n
-    pub side : smaller lt d keys x p ≡ false
+    pub within : p < n
+    pub not-below : smaller lt d keys x p ≡ false
     pub nearest : (j : ℕ) → j < n → smaller lt d keys x j ≡ false → smaller lt d keys (getD keys p d) j ≡ false
     pub lowest : (j : ℕ) → j < n → equal keys (getD keys p d) j ≡ true → p ≤ j
 
   -- the key at p is not above x, of the keys that are not above x none is above it, and none of its equals stands at a higher position
   pub record NearestDown (keys : List K) (n : ℕ) (x : K) (p : ℕ) : Type 0 where
-    pub kept : p < n
-    pub side : greater lt d keys x p ≡ false
+    pub within : p < n
+    pub not-above : greater lt d keys x p ≡ false
     pub nearest : (j : ℕ) → j < n → greater lt d keys x j ≡ false → greater lt d keys (getD keys p d) j ≡ false
     pub highest : (j : ℕ) → j < n → equal keys (getD keys p d) j ≡ true → j ≤ p
 
@@ -63,10 +63,12 @@ module _ {K : Type 0} (lt : K → K → Bool) (d : K) where
 pub record Lookup {K A : Type 0} (lt : K → K → Bool) (d : K) (keys : List K) (n : ℕ) (x : K) (at : ℕ → A) (check : Told (Unit {0})) (find : FindOption → Told (Partner A)) : Type 0 where
   -- a partner is answered exactly when the table is good and it is that of the nearest key
   pub answers-exactly : (opt : FindOption) (a : A) → (find opt ≡ gave (partner a)) ↔ ((check ≡ gave tt) × (p : ℕ) × Nearest lt d opt keys n x p × (at p ≡ a))
+  -- in a good table the nearest key stands at one position, which is the place that answers
+  pub nearest-exactly : (opt : FindOption) → check ≡ gave tt → (p : ℕ) → Nearest lt d opt keys n x p ↔ ((p < n) × (place lt d opt keys n x ≡ p))
   -- nothing is answered exactly when the table is good, no key equals and none stands on the asked side
   pub nothing-exactly : (opt : FindOption) → (find opt ≡ gave nothing) ↔ ((check ≡ gave tt) × NoKey lt d opt keys n x)
-  -- in a good table the place that answers is the one that the rule in words names
-  pub as-in-words : (opt : FindOption) → check ≡ gave tt → place lt d opt keys n x ≡ inWords lt d opt keys n x
+  -- what is told is what the rule in words tells
+  pub as-in-words : (opt : FindOption) → find opt ≡ ifGood check (gave (standing at n (inWords lt d opt keys n x)))
 
 -- of both lookups
 abbrev pub LookupTs : Type 0

@@ -11,7 +11,7 @@ use tracker::check;
 
 pub mod inner;
 
-// Which neighbour answers where no key is equal.
+// Which of the kept keys answers: with RoundUp the first that is not below the one asked for, with RoundDown the last that is not above it.
 pub enum FindOption {
     RoundUp,
     RoundDown,

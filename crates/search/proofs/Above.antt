@@ -12,7 +12,6 @@ use lib.IntN.{ℤ, pos, negsuc, _+ℤ_}
 use lib.ListN.{getD}
 use lib.Signed.{ltZ, mag}
 use Rattle.limits.specs.Domain.{lastSecond, firstSecond, outside}
-use Rattle.order.specs.First.{first}
 use Rattle.order.specs.Order.{drops}
 use Rattle.order.specs.Inner.{NoneBelow}
 use Rattle.order.proofs.Bools.{neither}
@@ -20,24 +19,25 @@ use Rattle.order.proofs.First.{first-within, first-holds, first-under, first-sa
 use Rattle.order.proofs.Last.{final-is, final-none}
 use Rattle.order.proofs.Order.{Order, rises}
 use Rattle.search.specs.Keys.{greater, firstNotBelow, lastNotAbove}
+use Rattle.search.specs.Inner.{firstAbove}
 
 module _ {K : Type 0} (lt : K → K → Bool) (d : K) (keys : List K) (n : ℕ) (x : K) where
   module _ (O : Order lt) (sorted : NoneBelow (drops lt d keys) n) where
     -- from the first key above x on, all are
-    climbs : (j : ℕ) → first (greater lt d keys x) n ≤ j → j < n → greater lt d keys x j ≡ true
+    climbs : (j : ℕ) → firstAbove lt d keys n x ≤ j → j < n → greater lt d keys x j ≡ true
     climbs j h l =
-        let i = first (greater lt d keys x) n in
+        let i = firstAbove lt d keys n x in
         O .lt-le x (getD keys i d) (getD keys j d) (first-holds (greater lt d keys x) n (omega arith)) (rises lt O d keys n sorted i j h l)
 
-    pub none-before : first (greater lt d keys x) n ≡ 0 → lastNotAbove lt d keys n x ≡ n
+    pub none-before : firstAbove lt d keys n x ≡ 0 → lastNotAbove lt d keys n x ≡ n
     none-before e = final-none (λ i. not (greater lt d keys x i)) n (λ j l. rw (climbs j (omega arith) l))
 
-    pub one-before : (r : ℕ) → r ≡ first (greater lt d keys x) n → 0 < r → r - 1 ≡ lastNotAbove lt d keys n x
+    pub one-before : (r : ℕ) → r ≡ firstAbove lt d keys n x → 0 < r → r - 1 ≡ lastNotAbove lt d keys n x
     one-before r e p =
         let l : r - 1 < n = omega (arith, first-within (greater lt d keys x) n) in
         sym (final-is (λ i. not (greater lt d keys x i)) n (r - 1) l (rw (first-under (greater lt d keys x) n (r - 1) l (omega arith))) (λ j a b. rw (climbs j (omega arith) b)))
 
-  pub by-next : (y : K) → ((k : K) → lt k y ≡ not (lt x k)) → firstNotBelow lt d keys n y ≡ first (greater lt d keys x) n
+  pub by-next : (y : K) → ((k : K) → lt k y ≡ not (lt x k)) → firstNotBelow lt d keys n y ≡ firstAbove lt d keys n x
   by-next y next = first-same (λ i. not (lt (getD keys i d) y)) (greater lt d keys x) n (λ j l. rw (next (getD keys j d)) (Bool·not-not (greater lt d keys x j)))
 
 -- ---- the next number

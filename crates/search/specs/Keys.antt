@@ -14,10 +14,10 @@ module _ {K : Type 0} (lt : K → K → Bool) (d : K) where
   abbrev pub greater : List K → K → ℕ → Bool
   greater keys x i = lt x (getD keys i d)
 
-  -- the first of the first n keys that is not below x, or n
+  -- the position of the first of n keys that is not below x, or n
   abbrev pub firstNotBelow : List K → ℕ → K → ℕ
   firstNotBelow keys n x = first (λ i. not (smaller keys x i)) n
 
-  -- the last of the first n keys that is not above x, or n
+  -- the position of the last of n keys that is not above x, or n
   abbrev pub lastNotAbove : List K → ℕ → K → ℕ
   lastNotAbove keys n x = final (λ i. not (greater keys x i)) n

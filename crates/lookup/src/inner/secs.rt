@@ -1,11 +1,8 @@
-// The position among the first n seconds of a good table, which do not drop: as for the sequences, with signed comparisons.
+// The position among the first n seconds of a good table: as for the sequences, with signed comparisons.
 ghost use mathlib.Core.Path.{_≡_};
-ghost use Prim.Native.Nat.{_≤_};
 ghost use lib.IntN.{pos};
-ghost use lib.ListN.{length};
 ghost use lib.Signed.{ltZ};
-ghost use Rattle.order.specs.Order.{drops, secOutside};
-ghost use Rattle.order.specs.Inner.{NoneBelow};
+ghost use Rattle.search.specs.Inner.{GoodSecs};
 ghost use Rattle.lookup.specs.Find.{place};
 use crate::FindOption;
 use search::inner::secs::first_not_below;
@@ -14,7 +11,7 @@ use tracker::Second;
 
 // The position that answers, or n.
 pub fn place(secs: &[i64], n: usize, ts: Second, find_opt: FindOption) -> usize
-    requires { ⌜ (n ≤ length (now secs)) × NoneBelow (drops ltZ (pos 0) (now secs)) n × NoneBelow (secOutside (now secs)) n ⌝ }
+    requires { ⌜ GoodSecs (now secs) n ⌝ }
     ensures { λ r. ⌜ r ≡ place ltZ (pos 0) «find_opt» (now (secs .entry)) n (ts .0) ⌝ }
 {
     let x = ts.0;

@@ -1,10 +1,7 @@
 // The position among the first n sequences of a good table, which do not drop.
 ghost use mathlib.Core.Path.{_≡_};
-ghost use Prim.Native.Nat.{_≤_};
 ghost use lib.Dec.{ltb};
-ghost use lib.ListN.{length};
-ghost use Rattle.order.specs.Order.{drops};
-ghost use Rattle.order.specs.Inner.{NoneBelow};
+ghost use Rattle.search.specs.Inner.{InOrder};
 ghost use Rattle.lookup.specs.Find.{place};
 use crate::FindOption;
 use search::inner::seqs::first_not_below;
@@ -13,7 +10,7 @@ use tracker::Seq;
 
 // The position that answers, or n.
 pub fn place(seqs: &[u64], n: usize, seq: Seq, find_opt: FindOption) -> usize
-    requires { ⌜ (n ≤ length (now seqs)) × NoneBelow (drops ltb 0 (now seqs)) n ⌝ }
+    requires { ⌜ InOrder ltb 0 (now seqs) n ⌝ }
     ensures { λ r. ⌜ r ≡ place ltb 0 «find_opt» (now (seqs .entry)) n (seq .0) ⌝ }
 {
     let x = seq.0;

@@ -4,9 +4,8 @@ use mathlib.Core.Path.{_≡_, sym, _∙_}
 use lib.IntN.{pos}
 use lib.Signed.{ltZ}
 use mir.Facts.{toZ-ofZ}
-use Rattle.order.specs.First.{first}
 use Rattle.order.proofs.Order.{int-order}
-use Rattle.search.specs.Keys.{greater}
+use Rattle.search.specs.Inner.{firstAbove}
 use Rattle.search.proofs.Above.{none-before, one-before}
 use Rattle.search.proofs.inner.secs.last_not_above.Statement.{statement}
 use Rattle.search.proofs.inner.secs.last_not_above.Tie as tie
@@ -15,7 +14,7 @@ first-above-requires : tie.Need-first-above-requires
 first-above-requires c κs = search needs
 
 -- the first second above the one asked for, which is held as bits
-found : (c : tie.After-first-above) → let a = c .before .args in c .first-above .result ≡ first (greater ltZ (pos 0) (a .secs .now) (a .x)) (a .n)
+found : (c : tie.After-first-above) → let a = c .before .args in c .first-above .result ≡ firstAbove ltZ (pos 0) (a .secs .now) (a .n) (a .x)
 found c = rw (toZ-ofZ (c .before .fits .x)) at (c .first-above .ensures)
 
 sub-result : tie.Need-sub-result
