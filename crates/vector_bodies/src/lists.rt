@@ -1,11 +1,13 @@
-// Lists of sequences and of seconds: read from a body, compared with one, and made by a rule.
-ghost use Prim.Native.Nat.{_<_};
+// Lists of sequences and of seconds: compared with a body, and made by a rule.
 use crate::digest;
 use std::num::wrapping_add_u64;
 use std::num::wrapping_add_usize as after;
-use vector_bytes::i64_at;
 use vector_bytes::u32_at;
 use vector_bytes::u64_at;
+use vector_lists::put_sec;
+use vector_lists::put_seq;
+use vector_lists::sec_of;
+use vector_lists::seq_of;
 
 // The most pairs that a rule stands for here.
 pub const MOST: usize = 16384;
@@ -23,48 +25,6 @@ pub struct Rule {
     pub sec: u64,
     pub sec_step: u64,
     pub sec_mask: u64,
-}
-
-fn put_seq(to: &mut [u64], i: usize, seq: u64) {
-    if i < to.len() {
-        to[i] = seq;
-    }
-}
-
-fn put_sec(to: &mut [i64], i: usize, sec: i64) {
-    if i < to.len() {
-        to[i] = sec;
-    }
-}
-
-pub fn seq_of(s: &[u64], i: usize) -> u64 {
-    if i < s.len() {
-        return s[i];
-    }
-    0
-}
-
-// The bits of a second.
-pub fn sec_of(s: &[i64], i: usize) -> u64 {
-    if i < s.len() {
-        return signed::as_unsigned(s[i]);
-    }
-    0
-}
-
-// The n pairs that a body lists: the sequences, then the seconds.
-pub fn read_pairs(b: &[u8], from: usize, n: usize, seqs: &mut [u64], secs: &mut [i64])
-    requires { ⌜ n < 256 ⌝ }
-{
-    let all = 8 * n;
-    let mut at = from;
-    let mut i = 0;
-    while i < n {
-        put_seq(seqs, i, u64_at(b, at));
-        put_sec(secs, i, i64_at(b, after(at, all)));
-        at = after(at, 8);
-        i += 1;
-    }
 }
 
 // Whether the first n pairs are those whose sequences and seconds stand at a place of a body and `all` bytes on.
@@ -90,21 +50,6 @@ pub fn values_so(b: &[u8], at: usize, n: usize, seqs: &[u64], secs: &[i64]) -> b
         return digest::pairs_so(b, at, n, seqs, secs);
     }
     same_pairs(b, at, 8 * n, n, seqs, secs)
-}
-
-// The first n, or all where there are fewer.
-pub fn first_seqs<'a>(s: &'a [u64], n: usize) -> &'a [u64] {
-    if n > s.len() {
-        return s;
-    }
-    &s[0..n]
-}
-
-pub fn first_secs<'a>(s: &'a [i64], n: usize) -> &'a [i64] {
-    if n > s.len() {
-        return s;
-    }
-    &s[0..n]
 }
 
 // The rule that a body begins with.

@@ -68,11 +68,11 @@ pub fn listed(b: &[u8], tally: &mut [u64; tally::PLACES]) {
     let n = u8_at(b, 0);
     let mut seqs = [0u64; lists::LISTED];
     let mut secs = [0i64; lists::LISTED];
-    lists::read_pairs(b, 2, n, &mut seqs, &mut secs);
+    vector_lists::read_pairs(b, 2, n, &mut seqs, &mut secs);
     list(
         b,
-        lists::first_seqs(&seqs, n),
-        lists::first_secs(&secs, n),
+        vector_lists::first_seqs(&seqs, n),
+        vector_lists::first_secs(&secs, n),
         tally,
     );
 }
@@ -111,8 +111,8 @@ pub fn ruled(b: &[u8], tally: &mut [u64; tally::PLACES]) {
     lists::make(lists::rule_of(b), &mut seqs, &mut secs);
     long_list(
         b,
-        lists::first_seqs(&seqs, n),
-        lists::first_secs(&secs, n),
+        vector_lists::first_seqs(&seqs, n),
+        vector_lists::first_secs(&secs, n),
         tally,
     );
 }

@@ -148,8 +148,8 @@ pub fn run(b: &[u8], table: SequenceTracker, seqs: &mut [u64], secs: &mut [i64])
         table,
         seqs,
         secs,
-        lists::first_seqs(&from_seqs, n),
-        lists::first_secs(&from_secs, n),
+        vector_lists::first_seqs(&from_seqs, n),
+        vector_lists::first_secs(&from_secs, n),
     );
     let told = Tally {
         recorded: u32_at(b, 60),
@@ -174,7 +174,7 @@ pub fn extended(b: &[u8], table: SequenceTracker, seqs: &mut [u64], secs: &mut [
     let mut from_seqs = [0u64; 8192];
     let mut from_secs = [0i64; 8192];
     let n = u8_at(b, 12);
-    lists::read_pairs(b, 13, n, &mut from_seqs, &mut from_secs);
+    vector_lists::read_pairs(b, 13, n, &mut from_seqs, &mut from_secs);
     let last = last_of(&from_secs, n);
     let other = SequenceTracker {
         count: n,

@@ -2,8 +2,8 @@ use Prim.Native.Nat.{_-_}
 use mathlib.Core.Path.{_≡_}
 use lib.ListN.{length}
 use borrow.Author.Needs.{needs}
-use Rattle.vector_bodies.proofs.lists.read_pairs.Statement.{statement}
-use Rattle.vector_bodies.proofs.lists.read_pairs.Tie as tie
+use Rattle.vector_lists.proofs.read_pairs.Statement.{statement}
+use Rattle.vector_lists.proofs.read_pairs.Tie as tie
 
 abbrev Inv-loop : tie.InvT-loop
 Inv-loop b from n seqs₀ secs₀ all at₀ i₀ seqs secs at i = (length seqs ≡ length seqs₀) × (length secs ≡ length secs₀)
