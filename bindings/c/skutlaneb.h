@@ -28,7 +28,7 @@ extern "C" {
  * not link. The function does nothing. The tie is a pointer that nothing reads, so a file that includes this header needs the library, also where it calls nothing;
  * with SKUT_NO_TIE defined, for who wants the types alone or finds the calls by dlsym, there is no tie. A compiler without GNU's attributes leaves it out, and one
  * without `retain` lets the linker's --gc-sections drop it. */
-void skut_layout_2(void);
+void skut_layout_3(void);
 #if defined(__GNUC__) && !defined(SKUT_NO_TIE)
 #if defined(__has_attribute)
 #if __has_attribute(retain)
@@ -38,15 +38,18 @@ void skut_layout_2(void);
 #ifndef SKUT_KEPT
 #define SKUT_KEPT __attribute__((used))
 #endif
-static void (*const skut_layout_used)(void) SKUT_KEPT = skut_layout_2;
+static void (*const skut_layout_used)(void) SKUT_KEPT = skut_layout_3;
 #undef SKUT_KEPT
 #endif
 
 /* What a call answers: number 0 and the values that it gives, or the number of its refusal and what that also tells. Values that are
- * not told are 0. */
+ * not told are 0. 4 to 8 also tell the place at which the missing item begins: `byte` of the image, from 0 on, and `bit` of it, 0 the most significant. The
+ * place is the start of the count (4), of the first value (5), or of the code with its prefix (6, 7, 8); where the image ends with whole items, it is the
+ * image's end. In every other answer `byte` and `bit` are 0. */
 struct skut_answer {
     uint32_t number;
     uint64_t a, b, c;
+    uint64_t byte, bit;
 };
 
 /* A table's state. Its pairs stand in two arrays of the caller's, each of as many places as the capacity says and at least one; `count` places
@@ -103,7 +106,7 @@ enum {
     SKUT_ROOM = 21,             /* the output is too short: the bytes needed */
     SKUT_INPUT_TOO_LONG = 22,   /* the input of the program listing is above 16,384 bytes; no call here answers it */
     SKUT_WIDTH = 23,            /* a bit width is above 64, or outside 1..32 in sign extension */
-    SKUT_BITS_SHORT = 24        /* fewer bits are left than asked for */
+    SKUT_BITS_SHORT = 24        /* fewer bits are left than asked for: the bits left */
 };
 
 /* Which of the kept keys answers a lookup. */

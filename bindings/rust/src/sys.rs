@@ -4,7 +4,8 @@
 //! A slice crosses as a pointer and a length. No number makes a call misread, if every pointer and its length name memory of the caller's own that nothing else frees or
 //! changes during the call, aligned as its type asks, and what is written to overlaps nothing else of the same call; a length of 0 needs no memory.
 
-/// Number 0 and the values that a call gives, or the number of its refusal and what that also tells.
+/// Number 0 and the values that a call gives, or the number of its refusal and what that also tells. `byte` and `bit` are the place that 4 to 8 tell: the byte of
+/// the image, from 0 on, and the bit of it, 0 the most significant, at which the missing item begins. In every other answer they are 0.
 #[repr(C)]
 #[derive(Clone, Copy, Debug, PartialEq, Eq)]
 pub struct Answer {
@@ -12,6 +13,8 @@ pub struct Answer {
     pub a: u64,
     pub b: u64,
     pub c: u64,
+    pub byte: u64,
+    pub bit: u64,
 }
 
 /// A table's state, as calls return it and take it. `has_last` is 0 or 1: a state with any other number there is refused (14).
@@ -70,10 +73,10 @@ extern "C" {
     pub fn skut_read_bits(s: *const u8, n: usize, byte: usize, bit: u8, width: u8) -> Answer;
     pub fn skut_write_bits(buf: *mut u8, n: usize, byte: usize, bit: u8, value: u64, width: u8) -> Answer;
     /// Does nothing: the number in its name is that of the structs' layout, and goes up with each change of one.
-    pub fn skut_layout_2();
+    pub fn skut_layout_3();
 }
 
 /// Ties the crate to its library: with one whose structs are laid out otherwise a program does not link. (Seen with rustc 1.96; an older one may let the
 /// linker drop this.)
 #[used]
-static LAYOUT: unsafe extern "C" fn() = skut_layout_2;
+static LAYOUT: unsafe extern "C" fn() = skut_layout_3;

@@ -1,8 +1,10 @@
--- What an exported call answers, from what the call below it tells: the refusal's number, 0 where it is not refused, and three values.
-use Prim.Native.Nat.{ℕ}
+-- What an exported call answers, from what the call below it tells: the refusal's number, 0 where it is not refused, three values, and a place.
+use Prim.Native.Nat.{ℕ, _-_}
+use mathlib.Core.Bool.{cond, _&&_}
 use mathlib.Core.List.{List, [], _∷_}
 use lib.IntN.{ℤ}
-use lib.ListN.{getD}
+use lib.Dec.{leb}
+use lib.ListN.{length, getD, take, drop}
 use Rattle.told.specs.Told.{Told, gave, refused}
 use Rattle.bits.specs.Read.{Piece}
 use Rattle.signed.specs.Signed.{pattern}
@@ -12,9 +14,20 @@ use Rattle.tracker.specs.declared.Second.{Second}
 use Rattle.lookup.specs.Find.{Partner, partner, nothing}
 use Rattle.answers.specs.declared.Answer.{Answer}
 
--- the number, and what is given or what the refusal also tells, in order; 0 where there is no more
+-- how many of these numbers stand before a place: 4 to 8 tell one in their last two, and the others tell none
+abbrev pub beforePlace : List ℕ → ℕ
+beforePlace l = cond (leb 4 (getD l 0 0) && leb (getD l 0 0) 8) (length l - 2) (length l)
+
+-- the number, what is given or what the refusal also tells, in order, and the place; 0 where there is no more
 abbrev pub answerOf : List ℕ → Answer
-answerOf l = record { number = getD l 0 0; a = getD l 1 0; b = getD l 2 0; c = getD l 3 0 }
+answerOf l = record {
+  number = getD l 0 0;
+  a = getD (take (beforePlace l) l) 1 0;
+  b = getD (take (beforePlace l) l) 2 0;
+  c = getD (take (beforePlace l) l) 3 0;
+  byte = getD (drop (beforePlace l) l) 0 0;
+  bit = getD (drop (beforePlace l) l) 1 0;
+}
 
 -- of a call that gives these values, or refuses
 abbrev pub of : {A : Type 0} → (A → List ℕ) → Told A → Answer

@@ -6,18 +6,28 @@ ghost use Rattle.encoder.specs.Encode as encoding;
 ghost use Rattle.tracker.specs.Refusal as table;
 ghost use Rattle.answers.specs.Answer.{answerOf};
 use crate::Answer;
+use bits::Place;
 use gorilla::Array;
 
-// The only place where an answer is made: 0 and what is given, or a number and what it also tells.
-pub fn answer(number: u32, a: u64, b: u64, c: u64) -> Answer
-    ensures { λ r. ⌜ r ≡ record { number = number; a = a; b = b; c = c } ⌝ }
+// The only place where an answer is made: 0 and what is given, or a number and what it also tells, with a place.
+fn answer_at(number: u32, a: u64, b: u64, c: u64, at: Place) -> Answer
+    ensures { λ r. ⌜ r ≡ record { number = number; a = a; b = b; c = c; byte = at .byte; bit = at .bit } ⌝ }
 {
     Answer {
         number: number,
         a: a,
         b: b,
         c: c,
+        byte: at.byte as u64,
+        bit: at.bit as u64,
     }
+}
+
+// One with no place.
+pub fn answer(number: u32, a: u64, b: u64, c: u64) -> Answer
+    ensures { λ r. ⌜ r ≡ record { number = number; a = a; b = b; c = c; byte = 0; bit = 0 } ⌝ }
+{
+    answer_at(number, a, b, c, Place { byte: 0, bit: 0 })
 }
 
 fn array_no(array: Array) -> u64
@@ -37,13 +47,17 @@ pub fn reading(why: decoder::Refusal) -> Answer
         decoder::Refusal::Empty => answer(1, 0, 0, 0),
         decoder::Refusal::Version(byte) => answer(2, byte as u64, 0, 0),
         decoder::Refusal::Header => answer(3, 0, 0, 0),
-        decoder::Refusal::CountCut(array) => answer(4, array_no(array), 0, 0),
+        decoder::Refusal::CountCut(array, at) => answer_at(4, array_no(array), 0, 0, at),
         decoder::Refusal::TooMany(array) => answer(10, array_no(array), 0, 0),
-        decoder::Refusal::FirstCut(array) => answer(5, array_no(array), 0, 0),
-        decoder::Refusal::CodeEnd(array, i) => answer(6, array_no(array), i as u64, 0),
-        decoder::Refusal::PrefixCut(array, i) => answer(7, array_no(array), i as u64, 0),
-        decoder::Refusal::DiffCut(array, i, width) => {
-            answer(8, array_no(array), i as u64, width as u64)
+        decoder::Refusal::FirstCut(array, at) => answer_at(5, array_no(array), 0, 0, at),
+        decoder::Refusal::CodeEnd(array, i, at) => {
+            answer_at(6, array_no(array), i as u64, 0, at)
+        }
+        decoder::Refusal::PrefixCut(array, i, at) => {
+            answer_at(7, array_no(array), i as u64, 0, at)
+        }
+        decoder::Refusal::DiffCut(array, i, width, at) => {
+            answer_at(8, array_no(array), i as u64, width as u64, at)
         }
         decoder::Refusal::CountDiffers(array) => answer(9, array_no(array), 0, 0),
     }

@@ -1,5 +1,5 @@
 -- Values stored one after the other. Assumes nothing.
-use Prim.Native.Nat.{ℕ, suc, _+_, _-_, _≤_}
+use Prim.Native.Nat.{ℕ, suc, _+_, _-_, _*_, _≤_}
 use mathlib.Core.Path.{_≡_, refl, sym, ap, _∙_}
 use mathlib.Core.Bool.{true}
 use mathlib.Core.List.{List, [], _∷_, _++_, map}
@@ -42,18 +42,18 @@ module _ {A : Type 0} (f : ℤ → A) where
   next out i t d (read ds bs) h = (refl, rw (add-one i))
   next out i t d (refused l) h = never h
 
-  pub fill-next : (a : ℕ) (out : List A) (i k : ℕ) (t : Track) (bs : List ℕ) {d : ℤ} {q : List ℕ} → read d q ≡ readCode a i bs → isRead (readCodes a (suc k) i bs) ≡ true
-      → (isRead (readCodes a k (i + 1) q) ≡ true)
-      × (filled (set out i (f ((followed t d) .prev))) (i + 1) (followed t d) (readCodes a k (i + 1) q) ≡ filled out i t (readCodes a (suc k) i bs))
+  pub fill-next : (all a : ℕ) (out : List A) (i k : ℕ) (t : Track) (bs : List ℕ) {d : ℤ} {q : List ℕ} → read d q ≡ readCode all a i bs → isRead (readCodes all a (suc k) i bs) ≡ true
+      → (isRead (readCodes all a k (i + 1) q) ≡ true)
+      × (filled (set out i (f ((followed t d) .prev))) (i + 1) (followed t d) (readCodes all a k (i + 1) q) ≡ filled out i t (readCodes all a (suc k) i bs))
   unfolding Next
-  fill-next a out i k t bs {d} {q} h r =
-      let e = codes-next a k i bs h in
-      let n = next out i t d (readCodes a k (i + 1) q) (ap isRead (sym e) ∙ r) in
+  fill-next all a out i k t bs {d} {q} h r =
+      let e = codes-next all a k i bs h in
+      let n = next out i t d (readCodes all a k (i + 1) q) (ap isRead (sym e) ∙ r) in
       (n .0, n .1 ∙ ap (filled out i t) (sym e))
 
 -- the whole array, once its first value is stored and the others follow
 pub filled-over : {A : Type 0} (f : ℤ → A) (s : List ℕ) (a n : ℕ) (x : ℤ) (q : Place) (out : List A) → 1 ≤ n → n ≤ length out → passedAt s a n q
-    → filled f (set out 0 (f x)) 1 (record { prev = x; delta = pos 0 }) (readCodes a (n - 1) 1 (bitsFrom s q)) ≡ over (map f (arrayAt s a n x q)) out
+    → filled f (set out 0 (f x)) 1 (record { prev = x; delta = pos 0 }) (readCodes (length s * 8) a (n - 1) 1 (bitsFrom s q)) ≡ over (map f (arrayAt s a n x q)) out
 filled-over f s a n x q out h k p =
     let l : length (map f (arrayAt s a n x q)) ≡ n = length-map (arrayAt s a n x q) f ∙ array-length s a n x q p in
     ap (λ (ys : List ℤ). sets out 0 (map f ys)) (sym (array-first s a n x q h)) ∙ sets-over (map f (arrayAt s a n x q)) out (omega (arith, l))
@@ -62,11 +62,11 @@ pub none-over : {A : Type 0} (f : ℤ → A) (s : List ℕ) (a n : ℕ) (x : ℤ
 none-over {A} f s a n x q out h = ap (λ (ys : List ℤ). over (map f ys) out) (sym (array-none s a n x q h))
 
 -- the first of codes that are all there is there
-pub first-there : (a i k : ℕ) (bs : List ℕ) → isRead (readCodes a (suc k) i bs) ≡ true → isRead (readCode a i bs) ≡ true
+pub first-there : (all a i k : ℕ) (bs : List ℕ) → isRead (readCodes all a (suc k) i bs) ≡ true → isRead (readCode all a i bs) ≡ true
 unfolding readCodes
-first-there a i k bs h = go (readCode a i bs) h
+first-there all a i k bs h = go (readCode all a i bs) h
   where
-    go : (c : Read ℤ) → isRead (andThen c (λ d r. andThen (readCodes a k (i + 1) r) (λ ds cs. read (d ∷ ds) cs))) ≡ true → isRead c ≡ true
+    go : (c : Read ℤ) → isRead (andThen c (λ d r. andThen (readCodes all a k (i + 1) r) (λ ds cs. read (d ∷ ds) cs))) ≡ true → isRead c ≡ true
     go (read d r) g = refl
     go (refused l) g = g
 

@@ -1,5 +1,5 @@
 -- What our own functions promise each other. No public statement cites this file.
-use Prim.Native.Nat.{ℕ, _≤_}
+use Prim.Native.Nat.{ℕ, _*_, _≤_}
 use mathlib.Core.Path.{_≡_}
 use mathlib.Core.Bool.{true}
 use mathlib.Core.List.{List, _++_}
@@ -17,8 +17,8 @@ ahead xs c = replicate (c .zeros) 0 ++ bitsFrom xs (c .at)
 
 -- the code of index i of array a leads from one cursor to the next
 abbrev pub Stepped : List ℕ → ℕ → ℕ → Cursor → Cursor → Type 0
-Stepped xs a i c r = (d : ℤ) × (read d (ahead xs r) ≡ readCode a i (ahead xs c)) × (r .track ≡ followed (c .track) d)
+Stepped xs a i c r = (d : ℤ) × (read d (ahead xs r) ≡ readCode (length xs * 8) a i (ahead xs c)) × (r .track ≡ followed (c .track) d)
 
 -- a cursor that has no zeros left, and whose next code is there
 abbrev pub CanStep : List ℕ → ℕ → ℕ → Cursor → Type 0
-CanStep xs a i c = (c .zeros ≡ 0) × (8 ≤ length xs) × (isRead (readCode a i (ahead xs c)) ≡ true)
+CanStep xs a i c = (c .zeros ≡ 0) × (8 ≤ length xs) × (isRead (readCode (length xs * 8) a i (ahead xs c)) ≡ true)

@@ -56,7 +56,7 @@ fn step(s: &[u8], c: Cursor, array: Array, index: usize) -> Cursor
             track: follow(t, 0),
         };
     }
-    match read_code(w, array, index) {
+    match read_code(w, array, index, s.len()) {
         CodeRead::Diff(d, n) => Cursor {
             zeros: 0,
             at: bits::inner::after(at, n),

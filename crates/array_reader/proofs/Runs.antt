@@ -30,26 +30,26 @@ use Rattle.code_reader.specs.declared.window.Window.{Window}
 use Rattle.code_reader.specs.declared.code.CodeRead.the-variants as c
 
 -- ---- n zeros before other bits
-zero-code : (a i : ℕ) (bs : List ℕ) → read (pos 0) bs ≡ readCode a i (0 ∷ bs)
+zero-code : (all a i : ℕ) (bs : List ℕ) → read (pos 0) bs ≡ readCode all a i (0 ∷ bs)
 unfolding readCode countOnes
-zero-code a i bs = rw (no-bits (8 ∷ a ∷ i ∷ 0 ∷ []) bs)
+zero-code all a i bs = rw (no-bits (8 ∷ a ∷ i ∷ 0 ∷ []) bs)
 
 -- the first of them is the code of 0
-pub zeros-code : (a i n : ℕ) (bs : List ℕ) → 0 < n → read (pos 0) (replicate (n - 1) 0 ++ bs) ≡ readCode a i (replicate n 0 ++ bs)
-zeros-code a i zero bs h = absurd (not-suc-le-zero h)
-zeros-code a i (suc n) bs h = let e : suc n - 1 ≡ n = omega arith in ap (λ (u : ℕ). read (pos 0) (replicate u 0 ++ bs)) e ∙ zero-code a i (replicate n 0 ++ bs)
+pub zeros-code : (all a i n : ℕ) (bs : List ℕ) → 0 < n → read (pos 0) (replicate (n - 1) 0 ++ bs) ≡ readCode all a i (replicate n 0 ++ bs)
+zeros-code all a i zero bs h = absurd (not-suc-le-zero h)
+zeros-code all a i (suc n) bs h = let e : suc n - 1 ≡ n = omega arith in ap (λ (u : ℕ). read (pos 0) (replicate u 0 ++ bs)) e ∙ zero-code all a i (replicate n 0 ++ bs)
 
 -- they are n codes
-pub zeros-codes : (a n k i : ℕ) (bs : List ℕ) → shape (readCodes a (n + k) i (replicate n 0 ++ bs)) ≡ shape (readCodes a k (i + n) bs)
-zeros-codes a zero k i bs =
+pub zeros-codes : (all a n k i : ℕ) (bs : List ℕ) → shape (readCodes all a (n + k) i (replicate n 0 ++ bs)) ≡ shape (readCodes all a k (i + n) bs)
+zeros-codes all a zero k i bs =
     let e : 0 + k ≡ k = omega arith in
-    ap₂ (λ (u v : ℕ). shape (readCodes a u v bs)) e (sym (add-zero i))
-zeros-codes a (suc n) k i bs =
+    ap₂ (λ (u v : ℕ). shape (readCodes all a u v bs)) e (sym (add-zero i))
+zeros-codes all a (suc n) k i bs =
     let e : suc n + k ≡ suc (n + k) = omega arith in
     let f : i + 1 + n ≡ i + suc n = omega arith in
-    ap (λ (u : ℕ). shape (readCodes a u i (replicate (suc n) 0 ++ bs))) e
-    ∙ shape-next a (n + k) i (replicate (suc n) 0 ++ bs) {d = pos 0} {q = replicate n 0 ++ bs} (zero-code a i (replicate n 0 ++ bs))
-    ∙ zeros-codes a n k (i + 1) bs ∙ ap (λ (u : ℕ). shape (readCodes a k u bs)) f
+    ap (λ (u : ℕ). shape (readCodes all a u i (replicate (suc n) 0 ++ bs))) e
+    ∙ shape-next all a (n + k) i (replicate (suc n) 0 ++ bs) {d = pos 0} {q = replicate n 0 ++ bs} (zero-code all a i (replicate n 0 ++ bs))
+    ∙ zeros-codes all a n k (i + 1) bs ∙ ap (λ (u : ℕ). shape (readCodes all a k u bs)) f
 
 -- those of bytes
 zeros-on : (s : List ℕ) (n p : ℕ) → p + n ≤ length s * 8 → ((j : ℕ) → j < n → bitAt s (p + j) ≡ 0) → drop p (bitsOf s) ≡ replicate n 0 ++ drop (p + n) (bitsOf s)
@@ -96,10 +96,10 @@ module _ (s : List ℕ) (at : Place) {w : Window} (h : Holds s (posOf (length s)
   zeros-on-at max n z k e = zeros-from s at _ n (omega (arith, h .within, z .1)) (on n k (z .1) e) (z .2 s (posOf (length s) at) h)
 
   -- a code
-  pub code-at : (a i n : ℕ) {d : ℤ} → ReadsCode w a i (c.Diff d n) → {q : Place} → q ≡ placeOf (at .byte * 8 + at .bit + n) → read d (bitsFrom s q) ≡ readCode a i (bitsFrom s at)
+  pub code-at : (a i n : ℕ) {d : ℤ} → ReadsCode w a i (length s) (c.Diff d n) → {q : Place} → q ≡ placeOf (at .byte * 8 + at .bit + n) → read d (bitsFrom s q) ≡ readCode (length s * 8) a i (bitsFrom s at)
   unfolding bitsFrom
-  code-at a i n {d} r e = ap (λ (u : ℕ). read d (drop u (bitsOf s))) (on n (r .0 .0) (r .0 .1) e) ∙ r .1 s (posOf (length s) at) h
+  code-at a i n {d} r e = ap (λ (u : ℕ). read d (drop u (bitsOf s))) (on n (r .0 .0) (r .0 .1) e) ∙ r .1 s (posOf (length s) at) h refl
 
-  pub code-cut-at : (a i : ℕ) (r : Refusal) → ReadsCode w a i (c.Refused r) → refused (told r) ≡ readCode a i (bitsFrom s at)
+  pub code-cut-at : (a i : ℕ) (r : Refusal) → ReadsCode w a i (length s) (c.Refused r) → refused (told r) ≡ readCode (length s * 8) a i (bitsFrom s at)
   unfolding bitsFrom
-  code-cut-at a i r k = k .1 s (posOf (length s) at) h
+  code-cut-at a i r k = k .1 s (posOf (length s) at) h refl

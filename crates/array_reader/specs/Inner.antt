@@ -27,12 +27,12 @@ toldScan xs (s.Refused r) = refused (told r)
 
 -- the codes of n values of array a from a place on: where they end, or which is cut off
 abbrev pub Scans : List ℕ → Place → ℕ → Array → Scanned → Type 0
-Scans xs at n a r = toldScan xs r ≡ shape (readCodes (arrayNo a) (n - 1) 1 (bitsFrom xs at))
+Scans xs at n a r = toldScan xs r ≡ shape (readCodes (length xs * 8) (arrayNo a) (n - 1) 1 (bitsFrom xs at))
 
 -- the values of array a: n of them, the first f, and the codes of the others at q
 unfoldable pub arrayAt : List ℕ → ℕ → ℕ → ℤ → Place → List ℤ
 arrayAt xs a zero f q = []
-arrayAt xs a (suc k) f q = f ∷ valuesAfter f (pos 0) (readOr [] (readCodes a k 1 (bitsFrom xs q)))
+arrayAt xs a (suc k) f q = f ∷ valuesAfter f (pos 0) (readOr [] (readCodes (length xs * 8) a k 1 (bitsFrom xs q)))
 
 abbrev pub toldArray : List ℕ → Array → ArrayScan → Read (List ℤ)
 toldArray xs a (y.Found n f q e) = read (arrayAt xs (arrayNo a) n f q) (drop (e * 8) (bitsOf xs))
@@ -46,7 +46,7 @@ aligned r = andThen r (λ x. _>>_ align (give x))
 -- the codes of n values are all there, in bytes that a window can be made of
 unfoldable pub passedAt : List ℕ → ℕ → ℕ → Place → Type 0
 passedAt xs a zero q = Unit {0}
-passedAt xs a (suc k) q = (8 ≤ length xs) × (isRead (readCodes a k 1 (bitsFrom xs q)) ≡ true)
+passedAt xs a (suc k) q = (8 ≤ length xs) × (isRead (readCodes (length xs * 8) a k 1 (bitsFrom xs q)) ≡ true)
 
 abbrev pub PassedArray : List ℕ → Array → ArrayScan → Type 0
 PassedArray xs a (y.Found n f q e) = passedAt xs (arrayNo a) n q × (e ≤ length xs)
@@ -54,7 +54,7 @@ PassedArray xs a (y.Refused r) = Unit {0}
 
 -- the n values of array a from a place on
 abbrev pub ReadsValues : List ℕ → Place → ℕ → Array → ArrayScan → Type 0
-ReadsValues xs at n a r = (toldArray xs a r ≡ aligned (readValues (arrayNo a) n (bitsFrom xs at))) × PassedArray xs a r
+ReadsValues xs at n a r = (toldArray xs a r ≡ aligned (readValues (length xs * 8) (arrayNo a) n (bitsFrom xs at))) × PassedArray xs a r
 
 -- a count of 32 bits finds room that is not above max
 abbrev pub Agrees : ℕ → (ℕ → Bool) → Type 0
@@ -63,4 +63,4 @@ Agrees max room = (n : ℕ) → n < 2 ^ 32 → room n ≡ leb n max
 -- array a from a byte on, of at most max values
 abbrev pub ReadsArray : List ℕ → ℕ → ℕ → Array → ArrayScan → Type 0
 ReadsArray xs from max a r =
-    ((room : ℕ → Bool) → Agrees max room → toldArray xs a r ≡ aligned (readArray (arrayNo a) room (drop (from * 8) (bitsOf xs)))) × PassedArray xs a r
+    ((room : ℕ → Bool) → Agrees max room → toldArray xs a r ≡ aligned (readArray (length xs * 8) (arrayNo a) room (drop (from * 8) (bitsOf xs)))) × PassedArray xs a r

@@ -9,6 +9,7 @@ use crate::scan::Scanned;
 use crate::scan::scan;
 use bits::BitsRead;
 use bits::Place;
+use bits::inner::place_left;
 use code_reader::Refusal;
 use gorilla::Array;
 
@@ -36,8 +37,11 @@ fn scan_values(s: &[u8], at: Place, count: usize, array: Array) -> ArrayScan
             Scanned::Done(e) => ArrayScan::Found(count, signed::as_signed(v), q, end_of(s, e)),
             Scanned::Refused(r) => ArrayScan::Refused(r),
         },
-        BitsRead::Width => ArrayScan::Refused(Refusal::FirstCut(array)),
-        BitsRead::Short => ArrayScan::Refused(Refusal::FirstCut(array)),
+        BitsRead::Short(left) => {
+            ArrayScan::Refused(Refusal::FirstCut(array, place_left(s.len(), left)))
+        }
+        // not of 64 bits
+        BitsRead::Width => ArrayScan::Refused(Refusal::FirstCut(array, at)),
     }
 }
 
@@ -45,7 +49,8 @@ fn scan_values(s: &[u8], at: Place, count: usize, array: Array) -> ArrayScan
 pub fn scan_array(s: &[u8], from: usize, max: usize, array: Array) -> ArrayScan
     ensures { λ r. ⌜ ReadsArray (now (s .entry)) from max array r ⌝ }
 {
-    match bit_reader::read_from(s, Place { byte: from, bit: 0 }, 32) {
+    let at = Place { byte: from, bit: 0 };
+    match bit_reader::read_from(s, at, 32) {
         BitsRead::Value(v, p) => {
             let count = v as usize;
             if max < count {
@@ -56,7 +61,10 @@ pub fn scan_array(s: &[u8], from: usize, max: usize, array: Array) -> ArrayScan
             }
             scan_values(s, p, count, array)
         }
-        BitsRead::Width => ArrayScan::Refused(Refusal::CountCut(array)),
-        BitsRead::Short => ArrayScan::Refused(Refusal::CountCut(array)),
+        BitsRead::Short(left) => {
+            ArrayScan::Refused(Refusal::CountCut(array, place_left(s.len(), left)))
+        }
+        // not of 32 bits
+        BitsRead::Width => ArrayScan::Refused(Refusal::CountCut(array, at)),
     }
 }

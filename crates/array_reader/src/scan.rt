@@ -31,7 +31,7 @@ pub fn scan(s: &[u8], at: Place, count: usize, array: Array) -> Scanned
             i += z as usize;
             continue;
         }
-        match read_code(w, array, i) {
+        match read_code(w, array, i, s.len()) {
             CodeRead::Diff(_, n) => {
                 p = bits::inner::after(p, n);
             }

@@ -12,7 +12,7 @@ use Rattle.told.specs.Over.{filled}
 use Rattle.bit_lists.specs.BitList.{natBits, bitsOf, natFrom, packed}
 use Rattle.raw_bits.specs.Inner.{bitsAt, putBits}
 use Rattle.bit_lists.proofs.Written.{from-at, put-over}
-use Rattle.bits.specs.Place.{posOf, placeOf}
+use Rattle.bits.specs.Place.{posOf, leftAt, placeOf}
 use Rattle.bits.specs.Read.{Piece, readRule, toldRead}
 use Rattle.bits.specs.Write.{writeRule, written}
 use Rattle.bits.specs.declared.Place.{Place}
@@ -23,14 +23,16 @@ pub read-width : (s : List ℕ) (at : Place) (n : ℕ) → 64 < n → refused (2
 unfolding readRule
 read-width s at n h = simp (lt-ltb _ _ h)
 
-pub read-short : (s : List ℕ) (at : Place) (n q : ℕ) → n ≤ 64 → q ≡ posOf (length s) at → length s * 8 < q + n → refused (24 ∷ []) ≡ readRule s at n
+pub read-short : (s : List ℕ) (at : Place) (n q : ℕ) {left : ℕ} → n ≤ 64 → q ≡ posOf (length s) at → q ≤ length s * 8 → length s * 8 < q + n → left ≡ length s * 8 - q
+    → refused (24 ∷ left ∷ []) ≡ readRule s at n
 unfolding readRule
-read-short s at n q h e g = rw (← e) (simp (le-ltb _ _ h, lt-ltb _ _ g))
+read-short s at n q h e w g d = rw (← e, le-ltb 64 n h, lt-ltb (length s * 8 - q) n (omega arith), d) refl
 
 pub read-value : (s : List ℕ) (at : Place) (n q : ℕ) {v : ℕ} {p : Place} → n ≤ 64 → q ≡ posOf (length s) at → q + n ≤ length s * 8
     → v ≡ bitsAt s q n → p ≡ placeOf (q + n) → toldRead (rv.Value v p) ≡ readRule s at n
 unfolding readRule
-read-value s at n q h e g d f = rw (← e) (simp (le-ltb _ _ h, le-ltb _ _ g, d, from-at s q n g, f))
+read-value s at n q h e g d f =
+    let few : n ≤ length s * 8 - q = omega arith in rw (← e) (simp (le-ltb _ _ h, le-ltb _ _ few, d, from-at s q n g, f))
 
 -- the buffer after an answer x of the rule
 kept : (s : List ℕ) (at : Place) (v n : ℕ) {l : List ℕ} → refused l ≡ writeRule s at n → s ≡ written s at v n
@@ -102,16 +104,16 @@ module _ (s : List ℕ) (at : Place) (n : ℕ) where
   -- one law for the three cases: an answer x that is the rule's
   by-case : {X : Type 0} (x : Told Piece) → x ≡ readRule s at n
       → (64 < n → x ≡ refused (23 ∷ []) → X)
-      → (n ≤ 64 → length s * 8 < posOf (length s) at + n → x ≡ refused (24 ∷ []) → X)
+      → (n ≤ 64 → length s * 8 < posOf (length s) at + n → x ≡ refused (24 ∷ leftAt (length s) at ∷ []) → X)
       → (n ≤ 64 → posOf (length s) at + n ≤ length s * 8 → x ≡ found → X) → X
   unfolding readRule
-  by-case {X} x h a b c = go (ltb 64 n) refl (ltb (length s * 8) (posOf (length s) at + n)) refl h
+  by-case {X} x h a b c = go (ltb 64 n) refl (ltb (leftAt (length s) at) n) refl h
     where
-      go : (t : Bool) → ltb 64 n ≡ t → (u : Bool) → ltb (length s * 8) (posOf (length s) at + n) ≡ u
-          → x ≡ cond t (refused (23 ∷ [])) (cond u (refused (24 ∷ [])) found) → X
+      go : (t : Bool) → ltb 64 n ≡ t → (u : Bool) → ltb (leftAt (length s) at) n ≡ u
+          → x ≡ cond t (refused (23 ∷ [])) (cond u (refused (24 ∷ leftAt (length s) at ∷ [])) found) → X
       go true e u f g = a (ltb-true _ _ e) g
-      go false e true f g = b (ltb-false _ _ e) (ltb-true _ _ f) g
-      go false e false f g = c (ltb-false _ _ e) (ltb-false _ _ f) g
+      go false e true f g = b (ltb-false _ _ e) (omega (arith, ltb-true (leftAt (length s) at) n f, pos-le (length s) at)) g
+      go false e false f g = c (ltb-false _ _ e) (omega (arith, ltb-false (leftAt (length s) at) n f, pos-le (length s) at)) g
 
   pub given : {v : ℕ} {p : Place} → toldRead (rv.Value v p) ≡ readRule s at n → Given s at n v p
   given {v} {p} h = by-case (toldRead (rv.Value v p)) h
@@ -121,11 +123,11 @@ module _ (s : List ℕ) (at : Place) (n : ℕ) where
       let q : p ≡ placeOf (posOf (length s) at + n) = ap (λ (x : Piece). x .next) same in
       record { width = e; within = w; value = ap (λ (x : Piece). x .value) same ∙ from-at s (posOf (length s) at) n w; place = q; pos = ap (posOf (length s)) q ∙ pos-place (length s) (posOf (length s) at + n) w })
 
-  -- a read that was too short
-  pub short : toldRead rv.Short ≡ readRule s at n → length s * 8 < posOf (length s) at + n
-  short h = by-case (toldRead rv.Short) h
+  -- a read that was too short, and the bits left
+  pub short : {left : ℕ} → toldRead (rv.Short left) ≡ readRule s at n → (length s * 8 < posOf (length s) at + n) × (left ≡ leftAt (length s) at)
+  short {left} h = by-case (toldRead (rv.Short left)) h
       (λ _ g. let z : _≡_ {A = ℕ} 23 24 = cc in absurd (omega arith))
-      (λ _ w _. w)
+      (λ _ w g. (w, cc))
       (λ _ _ g. let z : _≡_ {A = ℕ} 0 1 = cc in absurd (omega arith))
 
   -- a width above 64

@@ -19,13 +19,13 @@ read-told (rv.Value v p) (rv.Value w q) h =
     let g : p ≡ q = ap (λ (x : Piece). x .next) e in
     cc
 read-told (rv.Value v p) rv.Width h = given-not-refused h
-read-told (rv.Value v p) rv.Short h = given-not-refused h
+read-told (rv.Value v p) (rv.Short n) h = given-not-refused h
 read-told rv.Width (rv.Value w q) h = given-not-refused (sym h)
 read-told rv.Width rv.Width h = refl
-read-told rv.Width rv.Short h = let z : _≡_ {A = ℕ} 23 24 = cc in absurd (omega arith)
-read-told rv.Short (rv.Value w q) h = given-not-refused (sym h)
-read-told rv.Short rv.Width h = let z : _≡_ {A = ℕ} 24 23 = cc in absurd (omega arith)
-read-told rv.Short rv.Short h = refl
+read-told rv.Width (rv.Short n) h = let z : _≡_ {A = ℕ} 23 24 = cc in absurd (omega arith)
+read-told (rv.Short n) (rv.Value w q) h = given-not-refused (sym h)
+read-told (rv.Short n) rv.Width h = let z : _≡_ {A = ℕ} 24 23 = cc in absurd (omega arith)
+read-told (rv.Short n) (rv.Short m) h = cc
 
 write-told : (a b : BitsWritten) → toldWrite a ≡ toldWrite b → a ≡ b
 write-told (wv.Done p) (wv.Done q) h = cc

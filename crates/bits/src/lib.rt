@@ -24,8 +24,8 @@ pub enum BitsRead {
     Value(u64, Place),
     // 23: more than 64 bits asked
     Width,
-    // 24: fewer bits left than asked
-    Short,
+    // 24: fewer bits left than asked, and how many
+    Short(u8),
 }
 
 // What a write answers.

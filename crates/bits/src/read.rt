@@ -4,6 +4,7 @@ ghost use Rattle.bits.specs.Read.{toldRead, readRule};
 use crate::BitsRead;
 use crate::Place;
 use crate::inner::after;
+use crate::inner::left_at;
 use crate::inner::needed;
 use crate::inner::settle;
 use raw_bits::inner::take_bits;
@@ -17,7 +18,7 @@ pub fn read_bits(s: &[u8], at: Place, width: u8) -> BitsRead
         return BitsRead::Width;
     }
     if s.len() < n {
-        return BitsRead::Short;
+        return BitsRead::Short(left_at(s.len(), p));
     }
     let v = take_bits(s, p.byte, p.bit, width);
     BitsRead::Value(v, after(p, width))

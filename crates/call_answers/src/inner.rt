@@ -31,7 +31,7 @@ pub fn of_read(read: BitsRead) -> Answer
     match read {
         BitsRead::Value(value, next) => answer(0, value, next.byte as u64, next.bit as u64),
         BitsRead::Width => answer(23, 0, 0, 0),
-        BitsRead::Short => answer(24, 0, 0, 0),
+        BitsRead::Short(left) => answer(24, left as u64, 0, 0),
     }
 }
 

@@ -6,12 +6,13 @@ use native.Mathlib.Nat.{add-zero, not-suc-le-zero, zero-div}
 use native.Mathlib.Omega.{arith}
 use borrow.Author.Tests.{lt-ltb, le-ltb}
 use lib.Arith.{digits-div, digits-mod}
-use lib.ListN.{length, drop}
+use lib.ListN.{length, drop, length-drop}
 use lib.Pow.{field, shl-shr, shr-shr}
 use Rattle.raw_bits.specs.Inner.{bitAt, bitsAt}
 use Rattle.bits.specs.Place.{posOf}
 use Rattle.raw_bits.proofs.Bits.{bitAt-lt, bitsAt-add, bitsAt-lt}
 use Rattle.bit_lists.specs.BitList.{bitsOf}
+use Rattle.bit_lists.proofs.Lists.{length-bitsOf}
 use Rattle.gorilla.specs.Parser.{read, refused, takeBits}
 use Rattle.gorilla.proofs.Bridge.{take-at, take-short}
 use Rattle.code_reader.specs.Inner.{Holds}
@@ -96,6 +97,10 @@ module _ {s : List ℕ} {q : ℕ} {w : Window} (h : Holds s q w) where
   -- none is left after n
   pub none-off : (n : ℕ) → n ≡ w .have → n < 36 → takeBits 1 [] (drop (q + n) (bitsOf s)) ≡ refused []
   none-off n e k = let l : q + w .have ≡ length s * 8 = h .last (omega arith) in take-short [] s 1 (q + n) (omega arith) (omega arith)
+
+  -- all that is left from its start on is in it
+  pub left-in : w .have < 36 → w .have ≡ length (drop q (bitsOf s))
+  left-in k = let l : q + w .have ≡ length s * 8 = h .last k in omega (arith, length-drop q (bitsOf s), length-bitsOf s)
 
   -- n bits that are the number 0
   pub zero-in : w .bits ≡ 0 → (j : ℕ) → j < w .have → bitAt s (q + j) ≡ 0

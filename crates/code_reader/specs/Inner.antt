@@ -6,7 +6,7 @@ use lib.ListN.{length, drop}
 use lib.IntN.{ℤ}
 use Rattle.raw_bits.specs.Inner.{bitAt, bitsAt}
 use Rattle.bit_lists.specs.BitList.{bitsOf}
-use Rattle.gorilla.specs.Parser.{Read, read, refused}
+use Rattle.gorilla.specs.Parser.{Read, read, refused, item}
 use Rattle.gorilla.specs.Reading.{countOnes, readCode}
 use Rattle.code_reader.specs.Refusal.{told}
 use Rattle.code_reader.specs.declared.window.Window.{Window}
@@ -45,10 +45,11 @@ abbrev pub WithinCode : Window → CodeRead → Type 0
 WithinCode w (c.Diff d n) = (0 < n) × (n ≤ w .have)
 WithinCode w (c.Refused r) = Unit {0}
 
--- r is the prefix of index i of array a, whatever bytes w has bits of
-abbrev pub ReadsPrefix : Window → ℕ → ℕ → Prefix → Type 0
-ReadsPrefix w a i r = WithinPrefix w r × ((xs : List ℕ) (q : ℕ) → Holds xs q w → toldPrefix xs q r ≡ countOnes a i 4 0 (drop q (bitsOf xs)))
+-- r is the prefix of index i of array a, whatever bytes, len of them, w has bits of
+abbrev pub ReadsPrefix : Window → ℕ → ℕ → ℕ → Prefix → Type 0
+ReadsPrefix w a i len r =
+    WithinPrefix w r × ((xs : List ℕ) (q : ℕ) → Holds xs q w → length xs ≡ len → toldPrefix xs q r ≡ item (len * 8) (countOnes a i 4 0) (drop q (bitsOf xs)))
 
 -- r is its code
-abbrev pub ReadsCode : Window → ℕ → ℕ → CodeRead → Type 0
-ReadsCode w a i r = WithinCode w r × ((xs : List ℕ) (q : ℕ) → Holds xs q w → toldCode xs q r ≡ readCode a i (drop q (bitsOf xs)))
+abbrev pub ReadsCode : Window → ℕ → ℕ → ℕ → CodeRead → Type 0
+ReadsCode w a i len r = WithinCode w r × ((xs : List ℕ) (q : ℕ) → Holds xs q w → length xs ≡ len → toldCode xs q r ≡ readCode (len * 8) a i (drop q (bitsOf xs)))

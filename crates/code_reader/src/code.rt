@@ -1,4 +1,5 @@
 // One code: its prefix, and the difference of deltas after it.
+ghost use Prim.Native.Nat.{_*_, _≤_};
 ghost use Rattle.gorilla.specs.Array.{arrayNo};
 ghost use Rattle.code_reader.specs.Inner.{ReadsCode};
 use crate::Refusal;
@@ -6,6 +7,7 @@ use crate::prefix::Prefix;
 use crate::prefix::leading;
 use crate::prefix::used_of;
 use crate::window::Window;
+use bits::inner::place_left;
 use gorilla::Array;
 
 pub enum CodeRead {
@@ -14,16 +16,18 @@ pub enum CodeRead {
     Refused(Refusal),
 }
 
-// The code of an index, which a window starts with.
-pub fn read_code(w: Window, array: Array, index: usize) -> CodeRead
-    ensures { λ r. ⌜ ReadsCode w (arrayNo array) index r ⌝ }
+// The code of an index, which a window of `len` bytes starts with.
+pub fn read_code(w: Window, array: Array, index: usize, len: usize) -> CodeRead
+    requires { ⌜ w .have ≤ len * 8 ⌝ }
+    ensures { λ r. ⌜ ReadsCode w (arrayNo array) index len r ⌝ }
 {
-    match leading(w, array, index) {
+    match leading(w, array, index, len) {
         Prefix::Ones(n) => {
             let width = gorilla::inner::width_of(n);
             let bits = used_of(n) + width;
             if w.have < bits {
-                return CodeRead::Refused(Refusal::DiffCut(array, index, width));
+                let at = place_left(len, w.have);
+                return CodeRead::Refused(Refusal::DiffCut(array, index, width, at));
             }
             let v = bits::inner::field(w.bits, 64 - bits, width);
             CodeRead::Diff(gorilla::inner::diff_of(v, width), bits)

@@ -5,9 +5,11 @@ pub mod inner; // inner.rt: what our own crates call
 mod prefix; // prefix.rt: the ones before a code's difference
 mod window; // window.rt: the bits at a place
 
+use bits::Place;
 use gorilla::Array;
 
-// Why bytes are refused: 1 to 10 of docs/RULES.md, "Refusals".
+// Why bytes are refused: 1 to 10 of docs/RULES.md, "Refusals". The place of 4 to 8 is the one at which the missing item begins:
+// the count, the first value, or the code with its prefix.
 pub enum Refusal {
     // 1: the input is empty
     Empty,
@@ -16,17 +18,17 @@ pub enum Refusal {
     // 3: under 5 bytes
     Header,
     // 4: an array's count is cut off
-    CountCut(Array),
+    CountCut(Array, Place),
     // 10: a count above the shorter lent array
     TooMany(Array),
     // 5: an array's first value is cut off
-    FirstCut(Array),
+    FirstCut(Array, Place),
     // 6: the end before the code of an index
-    CodeEnd(Array, usize),
+    CodeEnd(Array, usize, Place),
     // 7: the end in the prefix of an index's code
-    PrefixCut(Array, usize),
+    PrefixCut(Array, usize, Place),
     // 8: the end in the difference of an index; its width
-    DiffCut(Array, usize, u8),
+    DiffCut(Array, usize, u8, Place),
     // 9: an array's count differs from the header's
     CountDiffers(Array),
 }

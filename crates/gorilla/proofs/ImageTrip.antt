@@ -14,7 +14,7 @@ use Rattle.signed.specs.Signed.{signed, pattern, subS, addS}
 use Rattle.bit_lists.specs.BitList.{natBits, bitsOf, byteLen}
 use Rattle.gorilla.specs.Parser.{read}
 use Rattle.gorilla.specs.Format.{codeBits, codesBits, valuesBits, arrayBits, arrayBytes, leBytes, imageBytes}
-use Rattle.gorilla.specs.Reading.{leCount, readPart, readPairs, readImage, valuesAfter}
+use Rattle.gorilla.specs.Reading.{leCount, readPart, readPairs, valuesAfter}
 use Rattle.gorilla.proofs.Taking.{take-is}
 use Rattle.gorilla.proofs.Trip.{AllFit, received, sentAfter, read-array}
 use Rattle.bit_lists.proofs.Lists.{length-bitsOf, bitsOf-append}
@@ -61,14 +61,14 @@ align-is j rest h =
     let l : length (replicate j 0 ++ bitsOf rest) ≡ j + length rest * 8 = length-append (replicate j 0) (bitsOf rest) ∙ ap₂ (λ (a b : ℕ). a + b) (length-replicate j 0) (length-bitsOf rest) in
     drop-at (replicate j 0) (bitsOf rest) (length (replicate j 0 ++ bitsOf rest) % 8) (length-replicate j 0 ∙ omega arith)
 
-pub part-trip : (a : ℕ) (room : ℕ → Bool) (xs : List ℤ) (rest : List ℕ) → AllFit xs → length xs < 2 ^ 32 → room (length xs) ≡ true
-    → readPart a room (length xs) (bitsOf (arrayBytes xs ++ rest)) ≡ read (received xs) (bitsOf rest)
+pub part-trip : (all a : ℕ) (room : ℕ → Bool) (xs : List ℤ) (rest : List ℕ) → AllFit xs → length xs < 2 ^ 32 → room (length xs) ≡ true
+    → readPart all a room (length xs) (bitsOf (arrayBytes xs ++ rest)) ≡ read (received xs) (bitsOf rest)
 unfolding readPart
-part-trip a room xs rest f h r =
+part-trip all a room xs rest f h r =
     let j : ℕ = byteLen (length (arrayBits xs)) * 8 - length (arrayBits xs) in
     let e : bitsOf (arrayBytes xs ++ rest) ≡ arrayBits xs ++ (replicate j 0 ++ bitsOf rest) =
     bitsOf-append (arrayBytes xs) rest ∙ ap (λ (ys : List ℕ). ys ++ bitsOf rest) (bits-packed (arrayBits xs) (bits-array xs)) ∙ append-assoc (arrayBits xs) (replicate j 0) (bitsOf rest) in
-    rw (e, read-array a room xs (replicate j 0 ++ bitsOf rest) f h r) (rw (eq-eqb (length (received xs)) (length xs) (length-received xs)) (ap (read (received xs)) (align-is j rest (omega arith))))
+    rw (e, read-array all a room xs (replicate j 0 ++ bitsOf rest) f h r) (rw (eq-eqb (length (received xs)) (length xs) (length-received xs)) (ap (read (received xs)) (align-is j rest (omega arith))))
 
 -- ---- the header
 count-is : (l : List ℕ) (n : ℕ) (rest : List ℕ) → n < 2 ^ 32 → leCount l (bitsOf (leBytes 4 n) ++ rest) ≡ read n rest
@@ -90,17 +90,17 @@ unfolding AllFit
 fits-signed [] f = tt
 fits-signed (u ∷ us) f = (sfits-toZ {w = w64} {n = u} (record { fits = f 0 }), fits-signed us (λ j. f (suc j)))
 
-pub image-trip : (room : ℕ → Bool) (seqs : List ℕ) (secs : List ℤ) (rest : List ℕ) → ((j : ℕ) → getD seqs j 0 < 2 ^ 64) → AllFit secs → length seqs ≡ length secs → length seqs < 2 ^ 32
-    → room (length seqs) ≡ true → readImage room (imageBytes seqs secs ++ rest) ≡ read (record { seqs = map pattern (received (map signed seqs)); secs = received secs }) (bitsOf rest)
+pub image-trip : (all : ℕ) (room : ℕ → Bool) (seqs : List ℕ) (secs : List ℤ) (rest : List ℕ) → ((j : ℕ) → getD seqs j 0 < 2 ^ 64) → AllFit secs → length seqs ≡ length secs → length seqs < 2 ^ 32
+    → room (length seqs) ≡ true → readPairs all room (bitsOf (imageBytes seqs secs ++ rest)) ≡ read (record { seqs = map pattern (received (map signed seqs)); secs = received secs }) (bitsOf rest)
 unfolding readPairs imageBytes bitsOf
-image-trip room seqs secs rest f g l h r =
+image-trip all room seqs secs rest f g l h r =
     let xs : List ℤ = map signed seqs in
     let lx : length xs ≡ length seqs = length-map seqs signed in
     let T : List ℕ = arrayBytes xs ++ (arrayBytes secs ++ rest) in
     let e : leBytes 4 (length seqs) ++ arrayBytes xs ++ arrayBytes secs ++ rest ≡ leBytes 4 (length seqs) ++ T = simp append-assoc in
-    let p : readPart 0 room (length seqs) (bitsOf T) ≡ read (received xs) (bitsOf (arrayBytes secs ++ rest)) =
-    rw lx at (part-trip 0 room xs (arrayBytes secs ++ rest) (fits-signed seqs f) (omega arith) (ap room lx ∙ r)) in
-    let q : readPart 1 room (length seqs) (bitsOf (arrayBytes secs ++ rest)) ≡ read (received secs) (bitsOf rest) =
-    rw (← l) at (part-trip 1 room secs rest g (omega arith) (ap room (sym l) ∙ r)) in
+    let p : readPart all 0 room (length seqs) (bitsOf T) ≡ read (received xs) (bitsOf (arrayBytes secs ++ rest)) =
+    rw lx at (part-trip all 0 room xs (arrayBytes secs ++ rest) (fits-signed seqs f) (omega arith) (ap room lx ∙ r)) in
+    let q : readPart all 1 room (length seqs) (bitsOf (arrayBytes secs ++ rest)) ≡ read (received secs) (bitsOf rest) =
+    rw (← l) at (part-trip all 1 room secs rest g (omega arith) (ap room (sym l) ∙ r)) in
     rw (e, bitsOf-append (leBytes 4 (length seqs)) T, take-is (1 ∷ []) 8 1 (bitsOf (leBytes 4 (length seqs)) ++ bitsOf T) (omega arith))
     (rw (count-is (3 ∷ []) (length seqs) (bitsOf T) h) (rw p (rw q)))

@@ -1,39 +1,79 @@
 -- What a call of `read_bits` says of the readers of bit lists. Assumes nothing.
-use Prim.Native.Nat.{ℕ, zero, suc, _+_, _-_, _≤_}
+use Prim.Native.Nat.{ℕ, zero, suc, _+_, _-_, _*_, _≤_}
 use mathlib.Core.Path.{_≡_, refl, sym, ap, ap₂, _∙_}
-use mathlib.Core.List.{List, [], _∷_}
+use mathlib.Core.List.{List, [], _∷_, _++_}
 use native.Mathlib.Omega.{arith}
 use borrow.Author.Tests.{ne-eqb}
-use lib.ListN.{length, drop, getD}
+use lib.ListN.{length, drop, getD, length-drop}
 use lib.IntN.{ℤ, pos}
 use Rattle.signed.specs.declared.Extended.the-variants as ev
 use Rattle.signed.specs.Extend.{extend, extendRule, toldExtend}
 use Rattle.gorilla.specs.Rows.{decoded}
 use Rattle.gorilla.specs.Rows.{widths}
 use Rattle.signed.proofs.Widths.{taken}
-use Rattle.bits.specs.Place.{posOf}
+use Rattle.bits.specs.Place.{posOf, leftAt, placeOf}
 use Rattle.bits.specs.Read.{readRule, toldRead}
 use Rattle.bits.specs.declared.Place.{Place}
 use Rattle.bits.specs.declared.BitsRead.the-variants as rv
 use Rattle.bits.proofs.Answers.{given, short, pos-le}
 use Rattle.bit_lists.specs.BitList.{bitsOf}
+use Rattle.bit_lists.proofs.Lists.{length-bitsOf}
 use Rattle.gorilla.specs.Inner.{shape}
-use Rattle.gorilla.specs.Parser.{Read, read, refused, takeBits, andThen}
+use Rattle.gorilla.specs.Parser.{Read, read, refused, Reader, takeBits, item, toldAt, andThen}
 use Rattle.bits.specs.Inner.{bitsFrom}
 use Rattle.gorilla.specs.Reading.{cutNumber, countOnes, readCode, readCodes}
 use Rattle.gorilla.proofs.Taking.{one-bit}
 use Rattle.gorilla.proofs.Bridge.{take-at, take-short}
 
+-- the bits from a place on are those left there
+pub left-from : (s : List ℕ) (at : Place) → length (bitsFrom s at) ≡ leftAt (length s) at
+unfolding bitsFrom
+left-from s at = length-drop (posOf (length s) at) (bitsOf s) ∙ ap (λ (u : ℕ). u - posOf (length s) at) (length-bitsOf s)
+
+-- what was read was not refused
+pub refused-not-read : {A B : Type 0} {l : List ℕ} {x : A} {bs : List ℕ} → refused l ≡ read x bs → B
+refused-not-read h = let z : _≡_ {A = ℕ} 0 1 = cc in absurd (omega arith)
+
+-- a refusal is no other, whatever would have been read
+same-refusal : {A B : Type 0} {k l : List ℕ} → _≡_ {A = Read A} (refused l) (refused k) → _≡_ {A = Read B} (refused k) (refused l)
+same-refusal {A} {B} {k} {l} h = let e : l ≡ k = cc in ap (λ (u : List ℕ). refused u) (sym e)
+
+-- an item that was read
+pub item-was : {A : Type 0} (all : ℕ) (m : Reader A) (bs : List ℕ) {x : A} {left : List ℕ} → item all m bs ≡ read x left → m bs ≡ read x left
+item-was all m bs = go (m bs)
+  where
+    go : {A : Type 0} (r : Read A) {x : A} {left : List ℕ} → toldAt (all - length bs) r ≡ read x left → r ≡ read x left
+    go (read y l) h = h
+    go (refused l) h = refused-not-read h
+
+-- the place by the bits left
+place-by : (all : ℕ) (bs : List ℕ) {left : ℕ} {r : Place} → left ≡ length bs → r ≡ placeOf (all - left) → placeOf (all - length bs) ≡ r
+place-by all bs e f = ap (λ (u : ℕ). placeOf (all - u)) (sym e) ∙ sym f
+
+-- an item that is read, and one that is refused: it tells the place r from which on as many bits are left
+pub item-read : {A : Type 0} (all : ℕ) (m : Reader A) (bs : List ℕ) {x : A} {r : List ℕ} → m bs ≡ read x r → item all m bs ≡ read x r
+item-read all m bs h = ap (toldAt (all - length bs)) h
+
+pub item-refused : {A : Type 0} (all : ℕ) (m : Reader A) (bs : List ℕ) {l : List ℕ} {left : ℕ} {r : Place} → m bs ≡ refused l → left ≡ length bs → r ≡ placeOf (all - left)
+    → item all m bs ≡ refused (l ++ (r .byte ∷ r .bit ∷ []))
+item-refused {A} all m bs {l} h e f =
+    ap (toldAt (all - length bs)) h ∙ ap (λ (p : Place). refused (l ++ (p .byte ∷ p .bit ∷ []))) (place-by all bs e f)
+
+-- n bits as an item of s
 module _ (s : List ℕ) (at : Place) (n : ℕ) (l : List ℕ) where
-  pub took : {v : ℕ} {q : Place} → toldRead (rv.Value v q) ≡ readRule s at n → takeBits n l (bitsFrom s at) ≡ read v (bitsFrom s q)
+  pub took : {v : ℕ} {q : Place} → toldRead (rv.Value v q) ≡ readRule s at n → item (length s * 8) (takeBits n l) (bitsFrom s at) ≡ read v (bitsFrom s q)
   unfolding bitsFrom
   took h =
       let g = given s at n h in
-      take-at l s n (posOf (length s) at) (g .within) ∙ ap₂ (λ (u p : ℕ). read u (drop p (bitsOf s))) (sym (g .value)) (sym (g .pos))
+      item-read (length s * 8) (takeBits n l) (bitsFrom s at)
+      (take-at l s n (posOf (length s) at) (g .within) ∙ ap₂ (λ (u p : ℕ). read u (drop p (bitsOf s))) (sym (g .value)) (sym (g .pos)))
 
-  pub ended : toldRead rv.Short ≡ readRule s at n → takeBits n l (bitsFrom s at) ≡ refused l
+  pub ended : {left : ℕ} {r : Place} → toldRead (rv.Short left) ≡ readRule s at n → r ≡ placeOf (length s * 8 - left)
+      → item (length s * 8) (takeBits n l) (bitsFrom s at) ≡ refused (l ++ (r .byte ∷ r .bit ∷ []))
   unfolding bitsFrom
-  ended h = take-short l s n (posOf (length s) at) (pos-le (length s) at) (short s at n h)
+  ended h e =
+      let g = short s at n h in
+      item-refused (length s * 8) (takeBits n l) (bitsFrom s at) (take-short l s n (posOf (length s) at) (pos-le (length s) at) (g .0)) (g .1 ∙ sym (left-from s at)) e
 
 -- one bit of a prefix
 module _ (a i k n : ℕ) where
@@ -74,34 +114,40 @@ width-most (suc (suc (suc (suc zero)))) = omega arith
 width-most (suc (suc (suc (suc (suc n))))) = omega arith
 
 -- ---- one code
-module _ (a i n : ℕ) (bs : List ℕ) where
+module _ (all a i n : ℕ) (bs : List ℕ) where
   pub code-read : {v : ℕ} {r q : List ℕ} → read n r ≡ countOnes a i 4 0 bs → takeBits (getD widths n 0) (8 ∷ a ∷ i ∷ getD widths n 0 ∷ []) r ≡ read v q
-      → readCode a i bs ≡ read (decoded (getD widths n 0) v) q
+      → readCode all a i bs ≡ read (decoded (getD widths n 0) v) q
   unfolding readCode
   code-read h k = rw (← h) (rw k)
 
-  pub code-short : {r : List ℕ} → read n r ≡ countOnes a i 4 0 bs → takeBits (getD widths n 0) (8 ∷ a ∷ i ∷ getD widths n 0 ∷ []) r ≡ refused (8 ∷ a ∷ i ∷ getD widths n 0 ∷ [])
-      → readCode a i bs ≡ refused (8 ∷ a ∷ i ∷ getD widths n 0 ∷ [])
+  pub code-short : {r : List ℕ} {left : ℕ} {at : Place} → read n r ≡ countOnes a i 4 0 bs
+      → takeBits (getD widths n 0) (8 ∷ a ∷ i ∷ getD widths n 0 ∷ []) r ≡ refused (8 ∷ a ∷ i ∷ getD widths n 0 ∷ []) → left ≡ length bs → at ≡ placeOf (all - left)
+      → readCode all a i bs ≡ refused (8 ∷ a ∷ i ∷ getD widths n 0 ∷ at .byte ∷ at .bit ∷ [])
   unfolding readCode
-  code-short h k = rw (← h) (rw k)
+  code-short h k e f = rw (← h) (rw k (ap (λ (p : Place). refused (8 ∷ a ∷ i ∷ getD widths n 0 ∷ p .byte ∷ p .bit ∷ [])) (place-by all bs e f)))
 
-pub code-cut : (a i : ℕ) (bs l : List ℕ) → refused l ≡ countOnes a i 4 0 bs → readCode a i bs ≡ refused l
+-- what is refused first is refused with the same place, whatever would follow
+first-refused : {A B : Type 0} (p : ℕ) (r : Read A) (f : A → Reader B) {l : List ℕ} → refused l ≡ toldAt p r → toldAt p (andThen r f) ≡ refused l
+first-refused p (read x bs) f h = refused-not-read h
+first-refused p (refused k) f h = same-refusal h
+
+pub code-cut : (all a i : ℕ) (bs : List ℕ) {l : List ℕ} → refused l ≡ item all (countOnes a i 4 0) bs → readCode all a i bs ≡ refused l
 unfolding readCode
-code-cut a i bs l h = rw (← h)
+code-cut all a i bs h = first-refused (all - length bs) (countOnes a i 4 0 bs) _ h
 
 -- ---- the codes, one after the other
 shape-then : {A B : Type 0} (r : Read A) (f : A → B) → shape (andThen r (λ x bs. read (f x) bs)) ≡ shape r
 shape-then (read x bs) f = refl
 shape-then (refused l) f = refl
 
-module _ (a k i : ℕ) (bs : List ℕ) where
-  pub codes-next : {d : ℤ} {q : List ℕ} → read d q ≡ readCode a i bs → readCodes a (suc k) i bs ≡ andThen (readCodes a k (i + 1) q) (λ ds r. read (d ∷ ds) r)
+module _ (all a k i : ℕ) (bs : List ℕ) where
+  pub codes-next : {d : ℤ} {q : List ℕ} → read d q ≡ readCode all a i bs → readCodes all a (suc k) i bs ≡ andThen (readCodes all a k (i + 1) q) (λ ds r. read (d ∷ ds) r)
   unfolding readCodes
   codes-next h = rw (← h)
 
-  pub shape-next : {d : ℤ} {q : List ℕ} → read d q ≡ readCode a i bs → shape (readCodes a (suc k) i bs) ≡ shape (readCodes a k (i + 1) q)
-  shape-next {d} {q} h = ap shape (codes-next h) ∙ shape-then (readCodes a k (i + 1) q) (λ ds. d ∷ ds)
+  pub shape-next : {d : ℤ} {q : List ℕ} → read d q ≡ readCode all a i bs → shape (readCodes all a (suc k) i bs) ≡ shape (readCodes all a k (i + 1) q)
+  shape-next {d} {q} h = ap shape (codes-next h) ∙ shape-then (readCodes all a k (i + 1) q) (λ ds. d ∷ ds)
 
-  pub codes-cut : {l : List ℕ} → refused l ≡ readCode a i bs → readCodes a (suc k) i bs ≡ refused l
+  pub codes-cut : {l : List ℕ} → refused l ≡ readCode all a i bs → readCodes all a (suc k) i bs ≡ refused l
   unfolding readCodes
   codes-cut h = rw (← h)

@@ -1,5 +1,5 @@
 -- What is written is read as `received`, and a difference is wide exactly where that is not what was written: the round trip, both ways. Assumes nothing.
-use Prim.Native.Nat.{ℕ, suc, _+_, _<_, _^_}
+use Prim.Native.Nat.{ℕ, suc, _+_, _*_, _<_, _^_}
 use mathlib.Core.Path.{_≡_, refl, sym, ap, ap₂, _∙_}
 use mathlib.Core.Bool.{Bool, true, false, cond}
 use mathlib.Core.Logic.{_↔_}
@@ -46,7 +46,7 @@ all-fit (x ∷ xs) f = (f 0 (omega arith), all-fit xs (λ i h. f (suc i) (omega 
 pub reads : (p : Pairs) (room : ℕ → Bool) (following : List ℕ) → Fit p → room (length (p .seqs)) ≡ true
     → readImage room (imageBytes (p .seqs) (p .secs) ++ following) ≡ read (receivedPairs p) (bitsOf following)
 unfolding receivedPairs
-reads p room following F r = image-trip room (p .seqs) (p .secs) following (all-small (p .seqs) (F .seqs64)) (all-fit (p .secs) (F .secs64)) (F .same) (F .few) r
+reads p room following F r = image-trip (length (imageBytes (p .seqs) (p .secs) ++ following) * 8) room (p .seqs) (p .secs) following (all-small (p .seqs) (F .seqs64)) (all-fit (p .secs) (F .secs64)) (F .same) (F .few) r
 
 -- ---- wide differences
 

@@ -22,7 +22,7 @@ use Rattle.gorilla.specs.Rows.{row, rowOf, decoded, strict}
 use Rattle.signed.proofs.Wrapping.{pattern-signed, signed-pattern, addS-subS, sub-add, sub-lt}
 use Rattle.signed.proofs.Widths.{two-halves, read-low, read-high}
 use Rattle.bit_lists.specs.BitList.{natBits}
-use Rattle.gorilla.specs.Parser.{read, takeBits, andThen}
+use Rattle.gorilla.specs.Parser.{read, takeBits, andThen, toldAt}
 use Rattle.gorilla.specs.Format.{codeBits, codesBits, valuesBits, arrayBits}
 use Rattle.gorilla.specs.Reading.{countOnes, readCode, readCodes, valuesAfter, readValues, readArray}
 use Rattle.gorilla.proofs.Rows.{reads-back, mag-strict, strict-of}
@@ -48,20 +48,20 @@ rows P p₀ p₁ p₂ p₃ p₄ d =
 unfoldable pub sentOf : ℤ → ℤ
 sentOf d = decoded ((rowOf d) .width) (lowBits ((rowOf d) .width) d)
 
-module _ (a i : ℕ) where
+module _ (all a i : ℕ) where
   ByRow : Row → Type 0
-  ByRow r = (x : ℕ) (rest : List ℕ) → readCode a i (natBits (r .«prefix_bits») (r .prefix) ++ (natBits (r .width) x ++ rest)) ≡ read (decoded (r .width) (x % 2 ^ r .width)) rest
+  ByRow r = (x : ℕ) (rest : List ℕ) → readCode all a i (natBits (r .«prefix_bits») (r .prefix) ++ (natBits (r .width) x ++ rest)) ≡ read (decoded (r .width) (x % 2 ^ r .width)) rest
 
   -- n ones, and the row's width w
-  by-row : (w n : ℕ) (x : ℕ) (rest : List ℕ)
-      → andThen (takeBits w (8 ∷ a ∷ i ∷ w ∷ []) (natBits w x ++ rest)) (λ v bs. read (decoded w v) bs) ≡ read (decoded w (x % 2 ^ w)) rest
-  by-row w n x rest = rw (take-nat (8 ∷ a ∷ i ∷ w ∷ []) w x rest)
+  by-row : (w n : ℕ) (x : ℕ) (rest : List ℕ) (p : ℕ)
+      → toldAt p (andThen (takeBits w (8 ∷ a ∷ i ∷ w ∷ []) (natBits w x ++ rest)) (λ v bs. read (decoded w v) bs)) ≡ read (decoded w (x % 2 ^ w)) rest
+  by-row w n x rest p = rw (take-nat (8 ∷ a ∷ i ∷ w ∷ []) w x rest)
 
   any-row : (d : ℤ) → ByRow (rowOf d)
   unfolding ByRow readCode countOnes natBits
-  any-row = rows ByRow (by-row 0 0) (by-row 7 1) (by-row 9 2) (by-row 12 3) (by-row 32 4)
+  any-row = rows ByRow (λ x r. by-row 0 0 x r _) (λ x r. by-row 7 1 x r _) (λ x r. by-row 9 2 x r _) (λ x r. by-row 12 3 x r _) (λ x r. by-row 32 4 x r _)
 
-  pub read-code : (d : ℤ) (rest : List ℕ) → readCode a i (codeBits d ++ rest) ≡ read (sentOf d) rest
+  pub read-code : (d : ℤ) (rest : List ℕ) → readCode all a i (codeBits d ++ rest) ≡ read (sentOf d) rest
   unfolding codeBits ByRow sentOf
   read-code d rest = rw append-assoc (any-row d (pattern d) rest)
 
@@ -72,10 +72,10 @@ unfoldable pub sentAfter : ℤ → ℤ → List ℤ → List ℤ
 sentAfter p e [] = []
 sentAfter p e (x ∷ xs) = sentOf (subS (subS x p) e) ∷ sentAfter x (subS x p) xs
 
-pub read-codes : (a i : ℕ) (p e : ℤ) (xs : List ℤ) (rest : List ℕ) → readCodes a (length xs) i (codesBits p e xs ++ rest) ≡ read (sentAfter p e xs) rest
+pub read-codes : (all a i : ℕ) (p e : ℤ) (xs : List ℤ) (rest : List ℕ) → readCodes all a (length xs) i (codesBits p e xs ++ rest) ≡ read (sentAfter p e xs) rest
 unfolding readCodes codesBits sentAfter
-read-codes a i p e [] rest = refl
-read-codes a i p e (x ∷ xs) rest = rw (append-assoc, read-code, read-codes a (i + 1) x (subS x p) xs rest)
+read-codes all a i p e [] rest = refl
+read-codes all a i p e (x ∷ xs) rest = rw (append-assoc, read-code, read-codes all a (i + 1) x (subS x p) xs rest)
 
 -- ---- the array
 
@@ -93,18 +93,18 @@ pattern-lt : (z : ℤ) → SFits w64 z → pattern z < 2 ^ 64
 pattern-lt (pos n) f = omega (arith, f .sfits)
 pattern-lt (negsuc n) f = omega (arith, f .sfits)
 
-pub read-values : (a : ℕ) (xs : List ℤ) (rest : List ℕ) → AllFit xs → readValues a (length xs) (valuesBits xs ++ rest) ≡ read (received xs) rest
+pub read-values : (all a : ℕ) (xs : List ℤ) (rest : List ℕ) → AllFit xs → readValues all a (length xs) (valuesBits xs ++ rest) ≡ read (received xs) rest
 unfolding readValues valuesBits received AllFit
-read-values a [] rest f = refl
-read-values a (x ∷ xs) rest (f, g) =
-    rw (append-assoc, take-is (5 ∷ a ∷ []) 64 (pattern x) (codesBits x (pos 0) xs ++ rest) (pattern-lt x f)) (rw (signed-pattern x f, read-codes a 1 x (pos 0) xs rest))
+read-values all a [] rest f = refl
+read-values all a (x ∷ xs) rest (f, g) =
+    rw (append-assoc, take-is (5 ∷ a ∷ []) 64 (pattern x) (codesBits x (pos 0) xs ++ rest) (pattern-lt x f)) (rw (signed-pattern x f, read-codes all a 1 x (pos 0) xs rest))
 
 -- all of an array, and nothing of what follows it, is read
-pub read-array : (a : ℕ) (room : ℕ → Bool) (xs : List ℤ) (rest : List ℕ) → AllFit xs → length xs < 2 ^ 32 → room (length xs) ≡ true
-    → readArray a room (arrayBits xs ++ rest) ≡ read (received xs) rest
+pub read-array : (all a : ℕ) (room : ℕ → Bool) (xs : List ℤ) (rest : List ℕ) → AllFit xs → length xs < 2 ^ 32 → room (length xs) ≡ true
+    → readArray all a room (arrayBits xs ++ rest) ≡ read (received xs) rest
 unfolding readArray arrayBits
-read-array a room xs rest f h r =
-    rw (append-assoc, take-is (4 ∷ a ∷ []) 32 (length xs) (valuesBits xs ++ rest) h, r) (read-values a xs rest f)
+read-array all a room xs rest f h r =
+    rw (append-assoc, take-is (4 ∷ a ∷ []) 32 (length xs) (valuesBits xs ++ rest) h, r) (read-values all a xs rest f)
 
 -- ---- strict: every difference of deltas is one of 32 bits
 

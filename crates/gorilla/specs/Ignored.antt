@@ -23,17 +23,17 @@ pub record Padded (room : ℕ → Bool) (bits : List ℕ) (p : Pairs) (left : Li
   pub secs : List ℕ
   pub secs-padding : List ℕ
   pub parts : bits ≡ header ++ seqs ++ seqs-padding ++ secs ++ secs-padding ++ left
-  -- the header is five bytes, each array is read to its last bit, and fewer than eight bits pad it to a byte
+  -- the header is five bytes, each array by itself is read to its last bit, and fewer than eight bits pad it to a byte
   pub five : length header ≡ 40
   pub values : List ℤ
   pub patterns : p .seqs ≡ map pattern values
-  pub seqs-read : readArray 0 room seqs ≡ read values []
-  pub secs-read : readArray 1 room secs ≡ read (p .secs) []
+  pub seqs-read : readArray (length seqs) 0 room seqs ≡ read values []
+  pub secs-read : readArray (length secs) 1 room secs ≡ read (p .secs) []
   pub seqs-padded : (length seqs-padding < 8) × (length (seqs ++ seqs-padding) % 8 ≡ 0)
   pub secs-padded : (length secs-padding < 8) × (length (secs ++ secs-padding) % 8 ≡ 0)
   -- any other padding as long: the same is read
   pub ignored : (x y : List ℕ) → length x ≡ length seqs-padding → length y ≡ length secs-padding
-      → readPairs room (header ++ seqs ++ x ++ secs ++ y ++ left) ≡ read p left
+      → readPairs (length bits) room (header ++ seqs ++ x ++ secs ++ y ++ left) ≡ read p left
 
 abbrev pub PaddingIgnored : Type 0
 PaddingIgnored = (room : ℕ → Bool) (bytes left : List ℕ) (p : Pairs) → readImage room bytes ≡ read p left → Padded room (bitsOf bytes) p left

@@ -35,7 +35,7 @@ module _ (room : ℕ → Bool) (s : List ℕ) (b : (j : ℕ) → getD s j 0 < 25
   le-is h =
       rw (byte-at (3 ∷ []) s 1 (omega arith) (b 1)) (rw (byte-at (3 ∷ []) s 2 (omega arith) (b 2)) (rw (byte-at (3 ∷ []) s 3 (omega arith) (b 3)) (rw (byte-at (3 ∷ []) s 4 (omega arith) (b 4)) refl)))
 
-  pub head-is : (n : ℕ) → 5 ≤ length s → getD s 0 0 ≡ 1 → HeaderCount s n → readImage room s ≡ readArrays room n (drop 40 (bitsOf s))
+  pub head-is : (n : ℕ) → 5 ≤ length s → getD s 0 0 ≡ 1 → HeaderCount s n → readImage room s ≡ readArrays (length s * 8) room n (drop 40 (bitsOf s))
   unfolding readPairs
   head-is n h k e = rw (byte-at (1 ∷ []) s 0 (omega arith) (b 0)) (rw (eq-eqb (getD s 0 0) 1 k) (rw e refl))
 
@@ -68,13 +68,13 @@ module _ (room : ℕ → Bool) (s : List ℕ) (b : (j : ℕ) → getD s j 0 < 25
   head-short h k e = rw (byte-at (1 ∷ []) s 0 h (b 0)) (rw (eq-eqb (getD s 0 0) 1 e) (rw (le-short (3 ∷ []) h k)))
 
 -- both arrays, one after the other
-module _ (room : ℕ → Bool) (n : ℕ) (bs : List ℕ) where
-  pub arrays-found : {xs ys : List ℤ} {r t : List ℕ} → readPart 0 room n bs ≡ read xs r → readPart 1 room n r ≡ read ys t
-      → readArrays room n bs ≡ read (record { seqs = map pattern xs; secs = ys }) t
+module _ (all : ℕ) (room : ℕ → Bool) (n : ℕ) (bs : List ℕ) where
+  pub arrays-found : {xs ys : List ℤ} {r t : List ℕ} → readPart all 0 room n bs ≡ read xs r → readPart all 1 room n r ≡ read ys t
+      → readArrays all room n bs ≡ read (record { seqs = map pattern xs; secs = ys }) t
   arrays-found p q = rw p (rw q)
 
-  pub first-refused : {l : List ℕ} → readPart 0 room n bs ≡ refused l → readArrays room n bs ≡ refused l
+  pub first-refused : {l : List ℕ} → readPart all 0 room n bs ≡ refused l → readArrays all room n bs ≡ refused l
   first-refused p = rw p
 
-  pub second-refused : {xs : List ℤ} {r l : List ℕ} → readPart 0 room n bs ≡ read xs r → readPart 1 room n r ≡ refused l → readArrays room n bs ≡ refused l
+  pub second-refused : {xs : List ℤ} {r l : List ℕ} → readPart all 0 room n bs ≡ read xs r → readPart all 1 room n r ≡ refused l → readArrays all room n bs ≡ refused l
   second-refused p q = rw p (rw q)

@@ -33,7 +33,7 @@ HeaderCount xs n = leCount (3 ∷ []) (drop 8 (bitsOf xs)) ≡ read n (drop 40 (
 
 -- both arrays after the header, of at most max values and of the count n that it says
 abbrev pub ReadsArrays : List ℕ → ℕ → ℕ → ImageScan → Type 0
-ReadsArrays xs max n r = ((room : ℕ → Bool) → Agrees max room → toldImage xs r ≡ readArrays room n (drop 40 (bitsOf xs))) × PassedImage xs max r
+ReadsArrays xs max n r = ((room : ℕ → Bool) → Agrees max room → toldImage xs r ≡ readArrays (length xs * 8) room n (drop 40 (bitsOf xs))) × PassedImage xs max r
 
 -- an image of at most max pairs
 abbrev pub ReadsImage : List ℕ → ℕ → ImageScan → Type 0

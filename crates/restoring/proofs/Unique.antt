@@ -23,12 +23,12 @@ reader-number : (r : dec.Refusal) → number (reader.told r) ≤ 10
 reader-number dv.Empty = omega arith
 reader-number (dv.Version b) = omega arith
 reader-number dv.Header = omega arith
-reader-number (dv.CountCut a) = omega arith
+reader-number (dv.CountCut a p) = omega arith
 reader-number (dv.TooMany a) = omega arith
-reader-number (dv.FirstCut a) = omega arith
-reader-number (dv.CodeEnd a i) = omega arith
-reader-number (dv.PrefixCut a i) = omega arith
-reader-number (dv.DiffCut a i w) = omega arith
+reader-number (dv.FirstCut a p) = omega arith
+reader-number (dv.CodeEnd a i p) = omega arith
+reader-number (dv.PrefixCut a i p) = omega arith
+reader-number (dv.DiffCut a i w p) = omega arith
 reader-number (dv.CountDiffers a) = omega arith
 
 restore-told : (a b : Restored) → toldRestore a ≡ toldRestore b → a ≡ b

@@ -2,6 +2,8 @@
 use mathlib.Core.Path.{refl}
 use Rattle.order.specs.First.{firstFrom, lastOr}
 use Rattle.bit_lists.specs.BitList.{natBits, bitsOf, natFrom, bytesOf, packed}
+use Rattle.bits.specs.Place.{posOf}
+use Rattle.bits.specs.Read.{readRule}
 use Rattle.gorilla.specs.Format.{codeBits, codesBits, valuesBits, arrayBits, leBytes, imageBytes}
 use Rattle.gorilla.specs.Parser.{takeBits}
 use Rattle.gorilla.specs.Reading.{cutNumber, countOnes, readCode, readCodes, valuesAfter, readValues, readArray, leCount, readPart, readPairs}
@@ -18,7 +20,7 @@ use Rattle.theorems.specs.Run.{step, ranTo}
 use Rattle.theorems.specs.Cases.{Cases}
 
 pub cases : Cases
-unfolding arraysRule roomRule imageBytes leBytes arrayBits valuesBits codesBits codeBits rowOf packed bytesOf natFrom natBits wideOf wideIn wideAfter strict ranTo step runOf firstFrom evens lastOr listed readPairs readPart leCount readArray readValues valuesAfter readCodes readCode countOnes cutNumber takeBits bitsOf digits decimal signedDecimal line lines entriesText refusedText listingOf
+unfolding readRule posOf arraysRule roomRule imageBytes leBytes arrayBits valuesBits codesBits codeBits rowOf packed bytesOf natFrom natBits wideOf wideIn wideAfter strict ranTo step runOf firstFrom evens lastOr listed readPairs readPart leCount readArray readValues valuesAfter readCodes readCode countOnes cutNumber takeBits bitsOf digits decimal signedDecimal line lines entriesText refusedText listingOf
 cases = record {
   extension = (refl, refl);
   extension-edges = (refl, refl, refl, refl, refl, refl);
@@ -46,5 +48,8 @@ cases = record {
   equals-last = ((refl, refl), (refl, refl));
   all-equal = ((refl, refl), (refl, refl), (refl, refl), (refl, refl));
   runOnly = (refl, refl, refl, refl);
+  code-place = (refl, refl);
+  cut-off = (refl, refl, refl, refl, refl, refl, refl);
+  bits-left = (refl, refl, refl, refl);
   order = (refl, refl);
 }

@@ -7,10 +7,10 @@ use native.Mathlib.Omega.{arith}
 use borrow.Author.Tests.{ltb-true}
 use lib.Dec.{ltb}
 use lib.IntN.{ℤ, pos, negsuc}
-use lib.ListN.{getD}
+use lib.ListN.{length, getD}
 use mir.Val.{sel}
 use Rattle.signed.specs.Signed.{signed, pattern, addW, addS}
-use Rattle.gorilla.specs.Parser.{read, require, takeBits}
+use Rattle.gorilla.specs.Parser.{read, require, takeBits, item}
 use Rattle.gorilla.specs.Reading.{readCodes, valuesAfter, readValues, readArray, Pairs, readImage}
 use Rattle.gorilla.proofs.Counts.{both}
 use Rattle.gorilla.proofs.Ignored.{padding-ignored}
@@ -28,12 +28,12 @@ after-small p e [] j = omega arith
 after-small p e (d ∷ ds) zero = pattern-small (addW (pattern p) (pattern (addS e d)))
 after-small p e (d ∷ ds) (suc j) = after-small (addS p (addS e d)) (addS e d) ds j
 
-values-small : (a n : ℕ) (bs : List ℕ) {xs : List ℤ} {left : List ℕ} → readValues a n bs ≡ read xs left → (j : ℕ) → getD (map pattern xs) j 0 < 2 ^ 64
+values-small : (all a n : ℕ) (bs : List ℕ) {xs : List ℤ} {left : List ℕ} → readValues all a n bs ≡ read xs left → (j : ℕ) → getD (map pattern xs) j 0 < 2 ^ 64
 unfolding readValues
-values-small a zero bs {xs} h j = let e : [] ≡ xs = cc in rw (← e) (omega arith)
-values-small a (suc k) bs {xs} h j =
-    let one = both (takeBits 64 (5 ∷ a ∷ []) bs) _ h in
-    let more = both (readCodes a k 1 (one .between)) _ (one .second) in
+values-small all a zero bs {xs} h j = let e : [] ≡ xs = cc in rw (← e) (omega arith)
+values-small all a (suc k) bs {xs} h j =
+    let one = both (item all (takeBits 64 (5 ∷ a ∷ [])) bs) _ h in
+    let more = both (readCodes all a k 1 (one .between)) _ (one .second) in
     let e : signed (one .value) ∷ valuesAfter (signed (one .value)) (pos 0) (more .value) ≡ xs = cc in
     rw (← e) (go (one .value) (more .value) j)
   where
@@ -45,6 +45,6 @@ pub seqs-small : (room : ℕ → Bool) (bytes left : List ℕ) (p : Pairs) → r
 unfolding readArray
 seqs-small room bytes left p h j =
     let q = padding-ignored room bytes left p h in
-    let one = both (takeBits 32 (4 ∷ 0 ∷ []) (q .seqs)) _ (q .seqs-read) in
+    let one = both (item (length (q .seqs)) (takeBits 32 (4 ∷ 0 ∷ [])) (q .seqs)) _ (q .seqs-read) in
     let more = both (require (room (one .value)) (10 ∷ 0 ∷ []) (one .between)) _ (one .second) in
-    rw (q .patterns) (values-small 0 (one .value) (more .between) (more .second) j)
+    rw (q .patterns) (values-small (length (q .seqs)) 0 (one .value) (more .between) (more .second) j)

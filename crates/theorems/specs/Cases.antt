@@ -9,6 +9,7 @@ use Rattle.told.specs.Over.{over, filled}
 use Rattle.signed.specs.Signed.{signed, subS}
 use Rattle.signed.specs.Extend.{extendRule}
 use Rattle.gorilla.specs.Format.{codeBits, imageBytes}
+use Rattle.bits.specs.Read.{readRule}
 use Rattle.gorilla.specs.Parser.{read}
 use Rattle.gorilla.specs.Reading.{Pairs, readCode}
 use Rattle.limits.specs.Settings.{roomOf}
@@ -126,7 +127,7 @@ pub record Cases : Type 0 where
   -- d = -64: 110 111000000; -256: 16 bits; -2048: 36
   pub P4 : (codeBits (negℤ (pos 64)) ≡ 1 ∷ 1 ∷ 0 ∷ 1 ∷ 1 ∷ 1 ∷ 0 ∷ 0 ∷ 0 ∷ 0 ∷ 0 ∷ 0 ∷ []) × (length (codeBits (negℤ (pos 256))) ≡ 16) × (length (codeBits (negℤ (pos 2048))) ≡ 36)
   -- the reader accepts longer codes than the writer makes (0 in 9 bits), and -64 in 7 bits
-  pub accepted : (readCode 0 1 (1 ∷ 1 ∷ 0 ∷ replicate 9 0) ≡ read (pos 0) []) × (readCode 0 1 (1 ∷ 0 ∷ 1 ∷ replicate 6 0) ≡ read (negℤ (pos 64)) [])
+  pub accepted : (readCode 12 0 1 (1 ∷ 1 ∷ 0 ∷ replicate 9 0) ≡ read (pos 0) []) × (readCode 9 0 1 (1 ∷ 0 ∷ 1 ∷ replicate 6 0) ≡ read (negℤ (pos 64)) [])
   -- (100,0),(164,60): 01 02000000 00000002 0000000000000064 C400 00000002 0000000000000000 9E00
   pub P5 : WritesImage (pair 100 0 ∷ pair 164 60 ∷ []) (fifth 0x00 0x00)
   -- the listing of P5
@@ -192,11 +193,32 @@ pub record Cases : Type 0 where
       × BothTs (pair 4 10 ∷ pair 4 20 ∷ pair 4 30 ∷ []) 4 (partner (second 10)) (partner (second 30))
       × BothTs (pair 4 10 ∷ pair 4 20 ∷ pair 4 30 ∷ []) 3 (partner (second 10)) nothing
       × BothTs (pair 4 10 ∷ pair 4 20 ∷ pair 4 30 ∷ []) 5 nothing (partner (second 30))
-  -- run only, in the sequences (array 0): count 2, the first value, then byte 80 gives 8 with width 7; no byte gives 6; count 9 and byte 01 gives 7 at index 8. Input 02 prints `refused 2`
+  -- run only, in the sequences (array 0): count 2, the first value, then byte 80 gives 8 with width 7, byte 17, bit 0; no byte gives 6 there; count 9 and byte 01 gives 7 at index 8,
+  -- byte 17, bit 7. Input 02 prints `refused 2`
   pub runOnly :
-      DecodeTells 9 (begun 2 ++ replicate 8 0 ++ (0x80 ∷ [])) (refused (8 ∷ 0 ∷ 1 ∷ 7 ∷ []))
-      × DecodeTells 9 (begun 2 ++ replicate 8 0) (refused (6 ∷ 0 ∷ 1 ∷ []))
-      × DecodeTells 9 (begun 9 ++ replicate 8 0 ++ (0x01 ∷ [])) (refused (7 ∷ 0 ∷ 8 ∷ []))
+      DecodeTells 9 (begun 2 ++ replicate 8 0 ++ (0x80 ∷ [])) (refused (8 ∷ 0 ∷ 1 ∷ 7 ∷ 17 ∷ 0 ∷ []))
+      × DecodeTells 9 (begun 2 ++ replicate 8 0) (refused (6 ∷ 0 ∷ 1 ∷ 17 ∷ 0 ∷ []))
+      × DecodeTells 9 (begun 9 ++ replicate 8 0 ++ (0x01 ∷ [])) (refused (7 ∷ 0 ∷ 8 ∷ 17 ∷ 7 ∷ []))
       × (listingOf (0x02 ∷ []) ≡ ascii "refused 2\n")
-  -- per array 4, 10, 5: a count of 2 for two arrays of one place, with no first value after it, gives 10; with two places, 5
-  pub order : DecodeTells 1 (begun 2) (refused (10 ∷ 0 ∷ [])) × DecodeTells 2 (begun 2) (refused (5 ∷ 0 ∷ []))
+  -- the place is the start of the code, not of its difference: count 3, the first value and byte 40, whose first bit is the code of index 1, give 8 at index 2, byte 17, bit 1;
+  -- byte 6F, 8 of width 9 there
+  pub code-place :
+      DecodeTells 9 (begun 3 ++ replicate 8 0 ++ (0x40 ∷ [])) (refused (8 ∷ 0 ∷ 2 ∷ 7 ∷ 17 ∷ 1 ∷ []))
+      × DecodeTells 9 (begun 3 ++ replicate 8 0 ++ (0x6F ∷ [])) (refused (8 ∷ 0 ∷ 2 ∷ 9 ∷ 17 ∷ 1 ∷ []))
+  -- P5's image cut off: after no byte 1, after 4 bytes 3, after 8 the sequences' count, in the seconds after 21 bytes the count, after 30 the first value, after 31 and 32 the code of index 1
+  pub cut-off :
+      DecodeTells 3 (take 0 (fifth 0x00 0x00)) (refused (1 ∷ []))
+      × DecodeTells 3 (take 4 (fifth 0x00 0x00)) (refused (3 ∷ []))
+      × DecodeTells 3 (take 8 (fifth 0x00 0x00)) (refused (4 ∷ 0 ∷ 5 ∷ 0 ∷ []))
+      × DecodeTells 3 (take 21 (fifth 0x00 0x00)) (refused (4 ∷ 1 ∷ 19 ∷ 0 ∷ []))
+      × DecodeTells 3 (take 30 (fifth 0x00 0x00)) (refused (5 ∷ 1 ∷ 23 ∷ 0 ∷ []))
+      × DecodeTells 3 (take 31 (fifth 0x00 0x00)) (refused (6 ∷ 1 ∷ 1 ∷ 31 ∷ 0 ∷ []))
+      × DecodeTells 3 (take 32 (fifth 0x00 0x00)) (refused (8 ∷ 1 ∷ 1 ∷ 7 ∷ 31 ∷ 0 ∷ []))
+  -- of one byte, 6 bits from bit 3 on: 24, with 5 left; from byte 1 on, or from bit 8, with 0 left; 65 bits are refused first
+  pub bits-left :
+      (readRule (0xFF ∷ []) (record { byte = 0; bit = 3 }) 6 ≡ refused (24 ∷ 5 ∷ []))
+      × (readRule (0xFF ∷ []) (record { byte = 1; bit = 0 }) 1 ≡ refused (24 ∷ 0 ∷ []))
+      × (readRule (0xFF ∷ []) (record { byte = 0; bit = 8 }) 1 ≡ refused (24 ∷ 0 ∷ []))
+      × (readRule (0xFF ∷ []) (record { byte = 0; bit = 3 }) 65 ≡ refused (23 ∷ []))
+  -- per array 4, 10, 5: a count of 2 for two arrays of one place, with no first value after it, gives 10; with two places, 5, at byte 9
+  pub order : DecodeTells 1 (begun 2) (refused (10 ∷ 0 ∷ [])) × DecodeTells 2 (begun 2) (refused (5 ∷ 0 ∷ 9 ∷ 0 ∷ []))

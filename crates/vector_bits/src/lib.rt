@@ -65,7 +65,7 @@ fn read_so(read: BitsRead, number: usize, value: u64) -> bool {
     match read {
         BitsRead::Value(v, _) => (number == 0) & (v == value),
         BitsRead::Width => number == 23,
-        BitsRead::Short => number == 24,
+        BitsRead::Short(_) => number == 24,
     }
 }
 

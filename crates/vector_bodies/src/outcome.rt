@@ -23,12 +23,12 @@ pub fn code_of(why: Refusal) -> usize {
         Refusal::Empty => 1,
         Refusal::Version(byte) => 2 + 256 * wide(byte),
         Refusal::Header => 3,
-        Refusal::CountCut(_) => 4,
+        Refusal::CountCut(_, _) => 4,
         Refusal::TooMany(array) => after(10, tells(array)),
-        Refusal::FirstCut(_) => 5,
-        Refusal::CodeEnd(_, _) => 6,
-        Refusal::PrefixCut(_, _) => 7,
-        Refusal::DiffCut(_, _, width) => 8 + 256 * wide(width),
+        Refusal::FirstCut(_, _) => 5,
+        Refusal::CodeEnd(_, _, _) => 6,
+        Refusal::PrefixCut(_, _, _) => 7,
+        Refusal::DiffCut(_, _, width, _) => 8 + 256 * wide(width),
         Refusal::CountDiffers(array) => after(9, tells(array)),
     }
 }

@@ -1,4 +1,6 @@
 use borrow.Author.Needs.{needs}
+use Prim.Native.Nat.{_*_}
+use lib.ListN.{length}
 use lib.IntN.{pos}
 use Rattle.bits.specs.Inner.{bitsFrom}
 use Rattle.array_reader.proofs.Runs.{zeros-code}
@@ -14,7 +16,7 @@ follow-requires c κs = search needs
 returns : tie.Need-returns
 returns c =
     let st = c .before .before .before .before in
-    λ xs a i. (pos 0, zeros-code a i (st .args .c .zeros) (bitsFrom xs (st .args .c .at)) (st .pre), c .follow .ensures)
+    λ xs a i. (pos 0, zeros-code (length xs * 8) a i (st .args .c .zeros) (bitsFrom xs (st .args .c .at)) (st .pre), c .follow .ensures)
 
 pub coast-spec : {M : Type 1} → statement M
 coast-spec = tie.close (tie.spec sub-t4 follow-requires returns)

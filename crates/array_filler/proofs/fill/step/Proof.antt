@@ -1,10 +1,10 @@
 use native.Mathlib.Omega.{arith}
 use borrow.Author.Needs.{needs}
-use Prim.Native.Nat.{ℕ, _-_, _≤_}
+use Prim.Native.Nat.{ℕ, _-_, _*_, _≤_}
 use mathlib.Core.Path.{_≡_, sym, ap, _∙_, subst}
 use mathlib.Core.List.{List, _++_}
 use lib.IntN.{ℤ, pos}
-use lib.ListN.{replicate}
+use lib.ListN.{length, replicate}
 use mir.Syntax.{w64}
 use mir.Val.{SFits}
 use mir.Facts.{toZ-ofZ}
@@ -28,7 +28,7 @@ a-of st = arrayNo (st .args .array)
 
 -- the code of the index, from these bits on
 abbrev code-of : tie.Start → List ℕ → Read ℤ
-code-of st = readCode (a-of st) (st .args .index)
+code-of st = readCode (length (st .args .s .now) * 8) (a-of st) (st .args .index)
 
 -- what the cursor has ahead is what stands at its place
 at-place : (st : tie.Start) → code-of st (bitsFrom (st .args .s .now) (st .args .c .at)) ≡ code-of st (ahead (st .args .s .now) (st .args .c))
@@ -68,7 +68,7 @@ returns c =
     let s = st .args .s .now in
     let n : ℕ = z .zeros .result in (
       pos 0,
-      zeros-code (a-of st) (st .args .index) n (bitsFrom s (af .after .result)) (t1 .if1 .taken)
+      zeros-code (length s * 8) (a-of st) (st .args .index) n (bitsFrom s (af .after .result)) (t1 .if1 .taken)
           ∙ ap (code-of st) (sym (zeros-on-at s (st .args .c .at) (wa .window-at .ensures) 64 n (z .zeros .ensures) (t1 .if1 .taken) (af .after .ensures))) ∙ at-place st,
       c .follow .ensures,
     )
@@ -84,11 +84,11 @@ abbrev w-of : tie.After-read-code → tie.After-window-at
 w-of rc = rc .before .before .before
 
 read-is : (c : tie.After-d)
-    → ReadsCode (w-of (c .before .before) .window-at .result) (a-of (st-of (w-of (c .before .before)))) ((st-of (w-of (c .before .before))) .args .index) (v.Diff (c .d .given .0 .0) (c .d .given .0 .1 .0))
+    → ReadsCode (w-of (c .before .before) .window-at .result) (a-of (st-of (w-of (c .before .before)))) ((st-of (w-of (c .before .before))) .args .index) (length ((st-of (w-of (c .before .before))) .args .s .now)) (v.Diff (c .d .given .0 .0) (c .d .given .0 .1 .0))
 read-is c =
     let rc = c .before .before in
     let wa = w-of rc in
-    subst (ReadsCode (wa .window-at .result) (a-of (st-of wa)) ((st-of wa) .args .index)) (c .d .given .1) (rc .read-code .ensures)
+    subst (ReadsCode (wa .window-at .result) (a-of (st-of wa)) ((st-of wa) .args .index) (length ((st-of wa) .args .s .now))) (c .d .given .1) (rc .read-code .ensures)
 
 after-requires-2 : tie.Need-after-requires-2
 after-requires-2 c κs =
@@ -124,7 +124,7 @@ returns-3 c =
     let rc = c .before .before in
     let wa = w-of rc in
     let st = st-of wa in
-    let k = subst (ReadsCode (wa .window-at .result) (a-of st) (st .args .index)) (c .enum-told .given .1) (rc .read-code .ensures) in
+    let k = subst (ReadsCode (wa .window-at .result) (a-of st) (st .args .index) (length (st .args .s .now))) (c .enum-told .given .1) (rc .read-code .ensures) in
     there-not (code-of st (ahead (st .args .s .now) (st .args .c)))
     (code-cut-at (st .args .s .now) (st .args .c .at) (wa .window-at .ensures) (a-of st) (st .args .index) (c .enum-told .given .0 .0) k ∙ at-place st) (st .pre .2)
 

@@ -7,13 +7,14 @@ use lib.ListN.{length, drop}
 use mir.Syntax.{w64}
 use mir.Val.{SFits, toZ, ofZ}
 use mir.Facts.{toZ-ofZ}
-use Rattle.bits.specs.Read.{toldRead}
+use Rattle.bits.specs.Read.{toldRead, readRule}
 use Rattle.bits.specs.declared.Place.{Place}
-use Rattle.bits.proofs.Answers.{given, too-wide}
+use Rattle.bits.specs.declared.BitsRead.the-variants as rv
+use Rattle.bits.proofs.Answers.{given, short, too-wide}
 use Rattle.gorilla.specs.Array.{arrayNo}
 use Rattle.bit_lists.specs.BitList.{bitsOf}
 use Rattle.gorilla.specs.Inner.{shape}
-use Rattle.gorilla.specs.Parser.{read, takeBits}
+use Rattle.gorilla.specs.Parser.{read, takeBits, item}
 use Rattle.bits.specs.Inner.{bitsFrom}
 use Rattle.gorilla.specs.Reading.{readCodes}
 use Rattle.gorilla.proofs.Readers.{took, ended}
@@ -40,7 +41,7 @@ here-of ar = bitsFrom (s-of ar) ((st-of ar) .args .at)
 abbrev q-of : tie.After-v → Place
 q-of av = av .v .given .0 .1 .0
 
-first-is : (av : tie.After-v) → takeBits 64 (5 ∷ a-of (av .before .before) ∷ []) (here-of (av .before .before)) ≡ read (av .v .given .0 .0) (bitsFrom (s-of (av .before .before)) (q-of av))
+first-is : (av : tie.After-v) → item (length (s-of (av .before .before)) * 8) (takeBits 64 (5 ∷ a-of (av .before .before) ∷ [])) (here-of (av .before .before)) ≡ read (av .v .given .0 .0) (bitsFrom (s-of (av .before .before)) (q-of av))
 first-is av =
     let ar = av .before .before in
     took (s-of ar) ((st-of ar) .args .at) 64 (5 ∷ a-of ar ∷ []) (ap toldRead (sym (av .v .given .1)) ∙ ar .read-from .ensures)
@@ -73,11 +74,18 @@ end-of-requires c κs = search needs
 enum-known-r : tie.Need-enum-known-r
 enum-known-r c = search needs
 
+enum-known-left : tie.Need-enum-known-left
+enum-known-left c = search needs
+
+-- the bits left are bits of the input
+short-is : (al : tie.After-left) → toldRead (rv.Short (al .left .given .0 .0)) ≡ readRule (s-of (al .before .before)) ((st-of (al .before .before)) .args .at) 64
+short-is al = let ar = al .before .before in ap toldRead (sym (al .left .given .1)) ∙ ar .read-from .ensures
+
+place-left-requires : tie.Need-place-left-requires
+place-left-requires c κs = let ar = c .before .before .before in omega (arith, short (s-of ar) ((st-of ar) .args .at) 64 (short-is (c .before)) .1)
+
 enum-told : tie.Need-enum-told
 enum-told c = search needs
-
-enum-told-2 : tie.Need-enum-told-2
-enum-told-2 c = search needs
 
 returns : tie.Need-returns
 returns c =
@@ -88,7 +96,7 @@ returns c =
     let ar = av .before .before in
     let e = ae .e .given .0 .0 in
     let f : SFits w64 (ah .as-signed .result) = search needs in
-    let k : read tt (bitsFrom (s-of ar) e) ≡ shape (readCodes (a-of ar) (n-of ar - 1) 1 (bitsFrom (s-of ar) (q-of av))) = ap (toldScan (s-of ar)) (sym (ae .e .given .1)) ∙ sc .scan .ensures in (
+    let k : read tt (bitsFrom (s-of ar) e) ≡ shape (readCodes (length (s-of ar) * 8) (a-of ar) (n-of ar - 1) 1 (bitsFrom (s-of ar) (q-of av))) = ap (toldScan (s-of ar)) (sym (ae .e .given .1)) ∙ sc .scan .ensures in (
       ap (λ (u : ℕ). read (arrayAt (s-of ar) (a-of ar) (n-of ar) (toZ w64 (ofZ w64 (ah .as-signed .result))) (q-of av)) (drop (u * 8) (bitsOf (s-of ar)))) (c .end-of .ensures)
           ∙ values-found (s-of ar) (a-of ar) (here-of ar) (n-of ar) (q-of av) e ((st-of ar) .pre) (toZ-ofZ f ∙ ah .as-signed .ensures) (first-is av) k,
       (values-passed (s-of ar) (a-of ar) (here-of ar) (n-of ar) (q-of av) e ((st-of ar) .pre) (long av) k, subst (λ (u : ℕ). u ≤ length (s-of ar)) (sym (c .end-of .ensures)) (end-within (length (s-of ar)) e)),
@@ -102,16 +110,17 @@ returns-2 c =
     let ar = av .before .before in
     (values-cut (s-of ar) (a-of ar) (here-of ar) (n-of ar) ((st-of ar) .pre) (first-is av) (ap (toldScan (s-of ar)) (sym (r .r .given .1)) ∙ sc .scan .ensures), tt)
 
-returns-3 : tie.Need-returns-3
-returns-3 c =
+returns-4 : tie.Need-returns-4
+returns-4 c =
     let ar = c .before .before in
     let w : 64 < 64 = too-wide (s-of ar) ((st-of ar) .args .at) 64 (ap toldRead (sym (c .enum-told .given .1)) ∙ ar .read-from .ensures) in
     absurd (omega arith)
 
-returns-4 : tie.Need-returns-4
-returns-4 c =
-    let ar = c .before .before in
-    (values-short (s-of ar) (a-of ar) (here-of ar) (n-of ar) ((st-of ar) .pre) (ended (s-of ar) ((st-of ar) .args .at) 64 (5 ∷ a-of ar ∷ []) (ap toldRead (sym (c .enum-told2 .given .1)) ∙ ar .read-from .ensures)), tt)
+returns-3 : tie.Need-returns-3
+returns-3 c =
+    let al = c .before .before in
+    let ar = al .before .before in
+    (values-short (s-of ar) (a-of ar) (here-of ar) (n-of ar) ((st-of ar) .pre) (ended (s-of ar) ((st-of ar) .args .at) 64 (5 ∷ a-of ar ∷ []) (short-is al) (c .place-left .ensures)), tt)
 
 pub scan-values-spec : {M : Type 1} → statement M
 scan-values-spec =
@@ -124,8 +133,9 @@ scan-values-spec =
     as-signed-requires
     end-of-requires
     enum-known-r
+    enum-known-left
+    place-left-requires
     enum-told
-    enum-told-2
     returns
     returns-2
     returns-3

@@ -1,8 +1,9 @@
 use native.Mathlib.Omega.{arith}
 use borrow.Author.Needs.{needs}
-use Prim.Native.Nat.{ℕ, suc, _+_, _-_, _≤_}
+use Prim.Native.Nat.{ℕ, suc, _+_, _-_, _*_, _≤_}
 use mathlib.Core.Path.{_≡_, refl, sym, ap, ap₂, _∙_, subst}
 use mathlib.Core.List.{List}
+use lib.ListN.{length}
 use lib.IntN.{ℤ}
 use Rattle.bits.specs.declared.Place.{Place}
 use Rattle.gorilla.specs.Array.{arrayNo}
@@ -20,7 +21,7 @@ use Rattle.array_reader.proofs.scan.scan.Tie as tie
 -- what is read from the start is what is read from here on
 abbrev Inv-loop : tie.InvT-loop
 Inv-loop s count array p₀ i₀ p i =
-    (1 ≤ i) × (shape (readCodes (arrayNo array) (count - i) i (bitsFrom s p)) ≡ shape (readCodes (arrayNo array) (count - 1) 1 (bitsFrom s p₀)))
+    (1 ≤ i) × (shape (readCodes (length s * 8) (arrayNo array) (count - i) i (bitsFrom s p)) ≡ shape (readCodes (length s * 8) (arrayNo array) (count - 1) 1 (bitsFrom s p₀)))
 
 abbrev μ-loop : tie.MeasureT-loop
 μ-loop s count array p₀ i₀ p i = count - i
@@ -37,6 +38,9 @@ a-of t = arrayNo ((st-of t) .args .array)
 abbrev i-of : tie.In-loop Inv-loop μ-loop → ℕ
 i-of t = t .before .loop .i
 
+abbrev all-of : tie.In-loop Inv-loop μ-loop → ℕ
+all-of t = length (s-of t) * 8
+
 abbrev here-of : tie.In-loop Inv-loop μ-loop → List ℕ
 here-of t = bitsFrom (s-of t) (t .before .loop .p)
 
@@ -46,17 +50,17 @@ k-of t = (st-of t) .args .count - (i-of t + 1)
 
 -- what there is to read from the start
 abbrev whole : tie.Start Inv-loop μ-loop → Read (Unit {0})
-whole st = shape (readCodes (arrayNo (st .args .array)) (st .args .count - 1) 1 (bitsFrom (st .args .s .now) (st .args .at)))
+whole st = shape (readCodes (length (st .args .s .now) * 8) (arrayNo (st .args .array)) (st .args .count - 1) 1 (bitsFrom (st .args .s .now) (st .args .at)))
 
-left : (t : tie.In-loop Inv-loop μ-loop) → shape (readCodes (a-of t) (suc (k-of t)) (i-of t) (here-of t)) ≡ whole (st-of t)
+left : (t : tie.In-loop Inv-loop μ-loop) → shape (readCodes (all-of t) (a-of t) (suc (k-of t)) (i-of t) (here-of t)) ≡ whole (st-of t)
 left t =
     let e : suc (k-of t) ≡ (st-of t) .args .count - i-of t = omega (arith, t .loop-test .taken) in
-    ap (λ (k : ℕ). shape (readCodes (a-of t) k (i-of t) (here-of t))) e ∙ t .before .loop .inv .1
+    ap (λ (k : ℕ). shape (readCodes (all-of t) (a-of t) k (i-of t) (here-of t))) e ∙ t .before .loop .inv .1
 
 -- one code was read
-next : (t : tie.In-loop Inv-loop μ-loop) (q : Place) {d : ℤ} → read d (bitsFrom (s-of t) q) ≡ readCode (a-of t) (i-of t) (here-of t)
-    → shape (readCodes (a-of t) (k-of t) (i-of t + 1) (bitsFrom (s-of t) q)) ≡ whole (st-of t)
-next t q h = sym (shape-next (a-of t) (k-of t) (i-of t) (here-of t) h) ∙ left t
+next : (t : tie.In-loop Inv-loop μ-loop) (q : Place) {d : ℤ} → read d (bitsFrom (s-of t) q) ≡ readCode (all-of t) (a-of t) (i-of t) (here-of t)
+    → shape (readCodes (all-of t) (a-of t) (k-of t) (i-of t + 1) (bitsFrom (s-of t) q)) ≡ whole (st-of t)
+next t q h = sym (shape-next (all-of t) (a-of t) (k-of t) (i-of t) (here-of t) h) ∙ left t
 
 loop-holds : tie.Need-loop-holds Inv-loop μ-loop
 loop-holds c = (omega arith, refl)
@@ -100,7 +104,7 @@ loop-again c =
     let e : n + k ≡ (st-of t) .args .count - l .i = omega (arith, z .zeros .ensures .0, t .loop-test .taken) in
     let o = zeros-on-at (s-of t) (l .p) (wa .window-at .ensures) ((st-of t) .args .count - l .i) n (z .zeros .ensures) (c .before .if1 .taken) (c .after .ensures) in (
       omega arith,
-      sym (zeros-codes (a-of t) n k (l .i) (bitsFrom (s-of t) q)) ∙ ap₂ (λ (u : ℕ) (bs : List ℕ). shape (readCodes (a-of t) u (l .i) bs)) e (sym o) ∙ l .inv .1,
+      sym (zeros-codes (all-of t) (a-of t) n k (l .i) (bitsFrom (s-of t) q)) ∙ ap₂ (λ (u : ℕ) (bs : List ℕ). shape (readCodes (all-of t) (a-of t) u (l .i) bs)) e (sym o) ∙ l .inv .1,
     )
 
 read-code-requires : tie.Need-read-code-requires Inv-loop μ-loop
@@ -114,11 +118,11 @@ abbrev w-of : tie.After-read-code Inv-loop μ-loop → tie.After-window-at Inv-l
 w-of rc = rc .before .before .before
 
 read-is : (c : tie.After-n Inv-loop μ-loop)
-    → ReadsCode (w-of (c .before .before) .window-at .result) (a-of (w-of (c .before .before) .before)) (i-of (w-of (c .before .before) .before)) (v.Diff (c .n .given .0 .0) (c .n .given .0 .1 .0))
+    → ReadsCode (w-of (c .before .before) .window-at .result) (a-of (w-of (c .before .before) .before)) (i-of (w-of (c .before .before) .before)) (length (s-of (w-of (c .before .before) .before))) (v.Diff (c .n .given .0 .0) (c .n .given .0 .1 .0))
 read-is c =
     let rc = c .before .before in
     let wa = w-of rc in
-    subst (ReadsCode (wa .window-at .result) (a-of (wa .before)) (i-of (wa .before))) (c .n .given .1) (rc .read-code .ensures)
+    subst (ReadsCode (wa .window-at .result) (a-of (wa .before)) (i-of (wa .before)) (length (s-of (wa .before)))) (c .n .given .1) (rc .read-code .ensures)
 
 after-requires-2 : tie.Need-after-requires-2 Inv-loop μ-loop
 after-requires-2 c κs =
@@ -140,8 +144,8 @@ returns c =
     let rc = r .before .before in
     let wa = w-of rc in
     let t = wa .before in
-    let k = subst (ReadsCode (wa .window-at .result) (a-of t) (i-of t)) (r .r .given .1) (rc .read-code .ensures) in
-    sym (ap shape (codes-cut (a-of t) (k-of t) (i-of t) (here-of t) (code-cut-at (s-of t) (t .before .loop .p) (wa .window-at .ensures) (a-of t) (i-of t) (r .r .given .0 .0) k))) ∙ left t
+    let k = subst (ReadsCode (wa .window-at .result) (a-of t) (i-of t) (length (s-of t))) (r .r .given .1) (rc .read-code .ensures) in
+    sym (ap shape (codes-cut (all-of t) (a-of t) (k-of t) (i-of t) (here-of t) (code-cut-at (s-of t) (t .before .loop .p) (wa .window-at .ensures) (a-of t) (i-of t) (r .r .given .0 .0) k))) ∙ left t
 
 add-i-2 : tie.Need-add-i-2 Inv-loop μ-loop
 add-i-2 c = search needs
@@ -162,7 +166,7 @@ returns-2 c =
     let l = c .before .loop in
     let st = c .before .before .before in
     let e : 0 ≡ st .args .count - l .i = omega (arith, c .loop-test .left) in
-    ap (λ (k : ℕ). shape (readCodes (arrayNo (st .args .array)) k (l .i) (bitsFrom (st .args .s .now) (l .p)))) e ∙ l .inv .1
+    ap (λ (k : ℕ). shape (readCodes (length (st .args .s .now) * 8) (arrayNo (st .args .array)) k (l .i) (bitsFrom (st .args .s .now) (l .p)))) e ∙ l .inv .1
 
 pub scan-spec : {M : Type 1} → statement M
 scan-spec =

@@ -10,14 +10,17 @@ settle-requires c κs = search needs
 needed-requires : tie.Need-needed-requires
 needed-requires c κs = search needs
 
+left-at-requires : tie.Need-left-at-requires
+left-at-requires c κs = search needs
+
 returns : tie.Need-returns
 returns c = read-width _ _ _ (c .if1 .taken)
 
 returns-2 : tie.Need-returns-2
 returns-2 c =
-    let w = c .before .before .before in
+    let w = c .before .before .before .before in
     let p = w .settle .result in
-    read-short _ _ _ (p .byte * 8 + p .bit) (search needs) (w .settle .ensures .pos) (search needs)
+    read-short _ _ _ (p .byte * 8 + p .bit) (search needs) (w .settle .ensures .pos) (w .settle .ensures .within) (search needs) (c .left-at .ensures)
 
 take-bits-requires : tie.Need-take-bits-requires
 take-bits-requires c κs = search needs
@@ -39,6 +42,7 @@ read-bits-spec =
     settle-requires
     needed-requires
     returns
+    left-at-requires
     returns-2
     take-bits-requires
     after-requires

@@ -17,8 +17,11 @@ enum-told c = search needs
 answer-requires-2 : tie.Need-answer-requires-2
 answer-requires-2 c κs = search needs
 
-enum-told-2 : tie.Need-enum-told-2
-enum-told-2 c = search needs
+enum-known-read-2 : tie.Need-enum-known-read-2
+enum-known-read-2 c = search needs
+
+cast-answer-2 : tie.Need-cast-answer-2
+cast-answer-2 c = search needs
 
 answer-requires-3 : tie.Need-answer-requires-3
 answer-requires-3 c κs = search needs
@@ -30,7 +33,7 @@ returns-2 : tie.Need-returns-2
 returns-2 c = rw (c .answer2 .ensures, c .before .enum-told .given .1)
 
 returns-3 : tie.Need-returns-3
-returns-3 c = rw (c .answer3 .ensures, c .before .enum-told2 .given .1)
+returns-3 c = rw (c .answer3 .ensures, c .before .before .read2 .given .1)
 
 pub of-read-spec : {M : Type 1} → statement M
 of-read-spec =
@@ -41,7 +44,8 @@ of-read-spec =
     answer-requires
     enum-told
     answer-requires-2
-    enum-told-2
+    enum-known-read-2
+    cast-answer-2
     answer-requires-3
     returns
     returns-2

@@ -10,6 +10,7 @@ use lib.Pow.{pow-mono, pow-pos}
 use mir.Syntax.{w64}
 use mir.Val.{SFits}
 use mir.Facts.{toZ-ofZ}
+use Rattle.bits.specs.declared.Place.{Place}
 use Rattle.raw_bits.specs.Inner.{bitsAt}
 use Rattle.gorilla.specs.Array.{arrayNo}
 use Rattle.bit_lists.specs.BitList.{bitsOf}
@@ -17,10 +18,10 @@ use Rattle.gorilla.specs.Parser.{read, refused}
 use Rattle.gorilla.specs.Reading.{countOnes, readCode}
 use Rattle.gorilla.specs.Rows.{widths, decoded}
 use Rattle.gorilla.proofs.Bridge.{take-at, take-short}
-use Rattle.gorilla.proofs.Readers.{width-most, code-read, code-short, code-cut}
+use Rattle.gorilla.proofs.Readers.{width-most, item-was, code-read, code-short, code-cut}
 use Rattle.code_reader.specs.Inner.{Holds, toldPrefix, WithinPrefix}
 use Rattle.code_reader.specs.declared.window.Window.{Window}
-use Rattle.code_reader.proofs.Windows.{bits-in}
+use Rattle.code_reader.proofs.Windows.{bits-in, left-in}
 use Rattle.code_reader.proofs.code.read_code.Statement.{statement}
 use Rattle.code_reader.proofs.code.read_code.Tie as tie
 
@@ -39,6 +40,9 @@ a-of c = arrayNo ((st-of c) .args .array)
 
 abbrev i-of : tie.After-used-of → ℕ
 i-of c = (st-of c) .args .index
+
+abbrev len-of : tie.After-used-of → ℕ
+len-of c = (st-of c) .args .len
 
 abbrev an-of : tie.After-used-of → tie.After-n
 an-of c = c .before .before .before
@@ -59,22 +63,23 @@ sizes c =
     let g = few (an-of c) (an-of c .before .before .leading .ensures .0) in
     (e, f, omega (arith, e), omega (arith, e), omega (arith, f, width-most (n-of (an-of c))), omega (arith, e, g))
 
-prefix-is : (c : tie.After-used-of) (xs : List ℕ) (q : ℕ) → Holds xs q (w-of c) → read (n-of (an-of c)) (drop (q + c .used-of .result) (bitsOf xs)) ≡ countOnes (a-of c) (i-of c) 4 0 (drop q (bitsOf xs))
-prefix-is c xs q z =
+prefix-is : (c : tie.After-used-of) (xs : List ℕ) (q : ℕ) → Holds xs q (w-of c) → length xs ≡ len-of c → read (n-of (an-of c)) (drop (q + c .used-of .result) (bitsOf xs)) ≡ countOnes (a-of c) (i-of c) 4 0 (drop q (bitsOf xs))
+prefix-is c xs q z g =
     let al = an-of c .before .before in
-    ap (λ (u : ℕ). read (n-of (an-of c)) (drop (q + u) (bitsOf xs))) (c .used-of .ensures) ∙ ap (toldPrefix xs q) (sym (an-of c .n .given .1)) ∙ al .leading .ensures .1 xs q z
+    sym (item-was (len-of c * 8) (countOnes (a-of c) (i-of c) 4 0) (drop q (bitsOf xs))
+    (sym (ap (λ (u : ℕ). read (n-of (an-of c)) (drop (q + u) (bitsOf xs))) (c .used-of .ensures) ∙ ap (toldPrefix xs q) (sym (an-of c .n .given .1)) ∙ al .leading .ensures .1 xs q z g)))
 
 -- a code whose bits are all there
-there : (a i n U W : ℕ) {xs : List ℕ} {q : ℕ} {w : Window} → Holds xs q w → W ≡ getD widths n 0 → U + W ≤ w .have
+there : (all a i n U W : ℕ) {xs : List ℕ} {q : ℕ} {w : Window} → Holds xs q w → W ≡ getD widths n 0 → U + W ≤ w .have
     → read n (drop (q + U) (bitsOf xs)) ≡ countOnes a i 4 0 (drop q (bitsOf xs))
-    → read (decoded W (w .bits / 2 ^ (64 - (U + W)) % 2 ^ W)) (drop (q + (U + W)) (bitsOf xs)) ≡ readCode a i (drop q (bitsOf xs))
-there a i n U W {xs} {q} {w} z e l p =
+    → read (decoded W (w .bits / 2 ^ (64 - (U + W)) % 2 ^ W)) (drop (q + (U + W)) (bitsOf xs)) ≡ readCode all a i (drop q (bitsOf xs))
+there all a i n U W {xs} {q} {w} z e l p =
     let X : ℕ = getD widths n 0 in
     let f : q + (U + W) ≡ q + U + X = omega arith in
     let g : decoded W (w .bits / 2 ^ (64 - (U + W)) % 2 ^ W) ≡ decoded X (bitsAt xs (q + U) X) =
     ap (decoded W) (bits-in z U W l) ∙ ap (λ (u : ℕ). decoded u (bitsAt xs (q + U) u)) e in
     ap₂ (λ (d : ℤ) (u : ℕ). read d (drop u (bitsOf xs))) g f
-    ∙ sym (code-read a i n (drop q (bitsOf xs)) p (take-at (8 ∷ a ∷ i ∷ X ∷ []) xs X (q + U) (omega (arith, z .within))))
+    ∙ sym (code-read all a i n (drop q (bitsOf xs)) p (take-at (8 ∷ a ∷ i ∷ X ∷ []) xs X (q + U) (omega (arith, z .within))))
 
 leading-requires : tie.Need-leading-requires
 leading-requires c κs = search needs
@@ -92,23 +97,28 @@ add-bits : tie.Need-add-bits
 unfolding Sizes
 add-bits c = omega (arith, sizes c)
 
+place-left-requires : tie.Need-place-left-requires
+place-left-requires c κs = search needs
+
 -- the difference is cut off
 returns : tie.Need-returns
 unfolding Sizes
 returns c =
-    let uo = c .before .before in
+    let uo = c .before .before .before in
     let W : ℕ = uo .before .width-of .result in
     let U : ℕ = uo .used-of .result in
-    let l : w-of uo .have < U + W = c .if1 .taken in
+    let l : w-of uo .have < U + W = c .before .if1 .taken in
     let f = sizes uo .1 in (
       tt,
-      λ xs q z.
+      λ xs q z g.
           let o : U + W ≤ 36 = omega (arith, sizes uo) in
           let e : q + w-of uo .have ≡ length xs * 8 = z .last (omega arith) in
           let h : q + U ≤ length xs * 8 = omega (arith, sizes uo) in
           let k : length xs * 8 < q + U + getD widths (n-of (an-of uo)) 0 = omega (arith, f) in
-          ap (λ (u : ℕ). refused (8 ∷ a-of uo ∷ i-of uo ∷ u ∷ [])) f
-          ∙ sym (code-short (a-of uo) (i-of uo) (n-of (an-of uo)) (drop q (bitsOf xs)) (prefix-is uo xs q z) (take-short _ xs (getD widths (n-of (an-of uo)) 0) (q + U) h k)),
+          let at : Place = c .place-left .result in
+          ap (λ (u : ℕ). refused (8 ∷ a-of uo ∷ i-of uo ∷ u ∷ at .byte ∷ at .bit ∷ [])) f
+          ∙ sym (code-short (len-of uo * 8) (a-of uo) (i-of uo) (n-of (an-of uo)) (drop q (bitsOf xs)) (prefix-is uo xs q z g)
+          (take-short _ xs (getD widths (n-of (an-of uo)) 0) (q + U) h k) (left-in z (omega arith)) (c .place-left .ensures)),
     )
 
 sub-field : tie.Need-sub-field
@@ -142,9 +152,9 @@ returns-2 c =
     let l : U + W ≤ w-of uo .have = el .if1 .left in
     let f : SFits w64 (c .diff-of .result) = search needs in (
       (omega (arith, sizes uo), l),
-      λ xs q z.
+      λ xs q z g.
           ap (λ (d : ℤ). read d (drop (q + (U + W)) (bitsOf xs))) (toZ-ofZ f ∙ c .diff-of .ensures ∙ ap (decoded W) (fl .field .ensures))
-          ∙ there (a-of uo) (i-of uo) (n-of (an-of uo)) U W z (sizes uo .1) l (prefix-is uo xs q z),
+          ∙ there (len-of uo * 8) (a-of uo) (i-of uo) (n-of (an-of uo)) U W z (sizes uo .1) l (prefix-is uo xs q z g),
     )
 
 returns-3 : tie.Need-returns-3
@@ -152,7 +162,7 @@ returns-3 c =
     let r = c .before in
     let al = r .before .before in
     let st = al .before in
-    (tt, λ xs q z. sym (code-cut (arrayNo (st .args .array)) (st .args .index) (drop q (bitsOf xs)) _ (ap (toldPrefix xs q) (sym (r .r .given .1)) ∙ al .leading .ensures .1 xs q z)))
+    (tt, λ xs q z g. sym (code-cut (st .args .len * 8) (arrayNo (st .args .array)) (st .args .index) (drop q (bitsOf xs)) (ap (toldPrefix xs q) (sym (r .r .given .1)) ∙ al .leading .ensures .1 xs q z g)))
 
 pub read-code-spec : {M : Type 1} → statement M
 read-code-spec =
@@ -163,6 +173,7 @@ read-code-spec =
     width-of-requires
     used-of-requires
     add-bits
+    place-left-requires
     returns
     sub-field
     field-requires
