@@ -1,6 +1,6 @@
 // The steps below the public calls, for our own crates. All but `settle` ask what their caller has tested.
 ghost use mathlib.Core.Path.{_≡_};
-ghost use Prim.Native.Nat.{_+_, _-_, _*_, _/_, _^_, _≤_, _<_};
+ghost use Prim.Native.Nat.{_+_, _-_, _*_, _/_, _%_, _^_, _≤_, _<_};
 ghost use Rattle.bits.specs.Place.{placeOf};
 ghost use Rattle.bits.specs.Inner.{Settled};
 use crate::Place;
@@ -39,7 +39,7 @@ pub fn left_at(len: usize, at: Place) -> u8
 // The place from which on `left` bits are left in `len` bytes.
 pub fn place_left(len: usize, left: u8) -> Place
     requires { ⌜ left ≤ len * 8 ⌝ }
-    ensures { λ r. ⌜ r ≡ placeOf (len * 8 - left) ⌝ }
+    ensures { λ r. ⌜ (r .byte ≡ (len * 8 - left) / 8) × (r .bit ≡ (len * 8 - left) % 8) ⌝ }
 {
     Place {
         byte: len - (left as usize + 7) / 8,

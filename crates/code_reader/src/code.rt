@@ -24,11 +24,14 @@ pub fn read_code(w: Window, array: Array, index: usize, len: usize) -> CodeRead
     match leading(w, array, index, len) {
         Prefix::Ones(n) => {
             let width = gorilla::inner::width_of(n);
-            let bits = used_of(n) + width;
-            if w.have < bits {
+            let prefix = used_of(n);
+            let left = w.have - prefix;
+            if left < width {
+                // the code begins with its prefix
                 let at = place_left(len, w.have);
                 return CodeRead::Refused(Refusal::DiffCut(array, index, width, at));
             }
+            let bits = prefix + width;
             let v = bits::inner::field(w.bits, 64 - bits, width);
             CodeRead::Diff(gorilla::inner::diff_of(v, width), bits)
         }

@@ -1,4 +1,5 @@
 pub mod Lengths
 pub mod Following
+pub mod Cut
 pub mod Unique
 pub mod Stored

@@ -22,13 +22,13 @@ use Rattle.gorilla.proofs.Counts.{both}
 
 -- m is a reader in an input of so many bits: of bs the bits `used` are taken, and read as r in an input of any length, with any others after them that may
 -- stand for those that are left
-record Taken {A : Type 0} (May : List ℕ → List ℕ → Type 0) (m : ℕ → Reader A) (bs : List ℕ) (r : A) (left : List ℕ) : Type 0 where
-  used : List ℕ
-  front : bs ≡ used ++ left
-  same : (n : ℕ) (x : List ℕ) → May x left → m n (used ++ x) ≡ read r x
+pub record Taken {A : Type 0} (May : List ℕ → List ℕ → Type 0) (m : ℕ → Reader A) (bs : List ℕ) (r : A) (left : List ℕ) : Type 0 where
+  pub used : List ℕ
+  pub front : bs ≡ used ++ left
+  pub same : (n : ℕ) (x : List ℕ) → May x left → m n (used ++ x) ≡ read r x
 
-record Takes {A : Type 0} (May : List ℕ → List ℕ → Type 0) (m : ℕ → Reader A) : Type 0 where
-  takes : (n : ℕ) (bs left : List ℕ) (r : A) → m n bs ≡ read r left → Taken May m bs r left
+pub record Takes {A : Type 0} (May : List ℕ → List ℕ → Type 0) (m : ℕ → Reader A) : Type 0 where
+  pub takes : (n : ℕ) (bs left : List ℕ) (r : A) → m n bs ≡ read r left → Taken May m bs r left
 
 module _ (May : List ℕ → List ℕ → Type 0) (grow : (u x y : List ℕ) → May x y → May (u ++ x) (u ++ y)) where
   give-takes : {A : Type 0} (x : A) → Takes May (λ n. give x)
@@ -51,7 +51,7 @@ module _ (May : List ℕ → List ℕ → Type 0) (grow : (u x y : List ℕ) →
   require-takes true l = give-takes tt
   require-takes false l = record { takes = λ n bs left r h. refused-not-read h }
 
-  bits-takes : (n : ℕ) (l : List ℕ) → Takes May (λ all. takeBits n l)
+  pub bits-takes : (n : ℕ) (l : List ℕ) → Takes May (λ all. takeBits n l)
   bits-takes n l = record {
     takes = λ all bs left r h.
         let w = were-enough l n bs h in
@@ -79,14 +79,14 @@ module _ (May : List ℕ → List ℕ → Type 0) (grow : (u x y : List ℕ) →
   ones-take a i k n = record { takes = λ all. ones-taken a i k n }
 
   -- an item that is read tells no place
-  item-takes : {A : Type 0} {m : ℕ → Reader A} → Takes May m → Takes May (λ n. item n (m n))
+  pub item-takes : {A : Type 0} {m : ℕ → Reader A} → Takes May m → Takes May (λ n. item n (m n))
   item-takes {A} {m} M = record {
     takes = λ n bs left r h.
         let t = M .takes n bs left r (item-was n (m n) bs h) in
         record { used = t .used; front = t .front; same = λ k x a. item-read k (m k) (t .used ++ x) (t .same k x a) };
   }
 
-  code-takes : (a i : ℕ) → Takes May (λ n. readCode n a i)
+  pub code-takes : (a i : ℕ) → Takes May (λ n. readCode n a i)
   unfolding readCode
   code-takes a i = item-takes (then-takes (ones-take a i 4 0) (λ n. then-takes (bits-takes (getD widths n 0) _) (λ v. give-takes _)))
 
@@ -111,7 +111,7 @@ module _ (May : List ℕ → List ℕ → Type 0) (grow : (u x y : List ℕ) →
 -- ---- padding
 
 -- as many bits more than whole bytes
-Whole : List ℕ → List ℕ → Type 0
+pub Whole : List ℕ → List ℕ → Type 0
 Whole x y = length x % 8 ≡ length y % 8
 
 whole-grow : (u x y : List ℕ) → Whole x y → Whole (u ++ x) (u ++ y)
@@ -125,7 +125,7 @@ padding-passed pad after h k = ap (read tt) (drop-at pad after (length (pad ++ a
 align-leaves : (bs : List ℕ) → length (drop (length bs % 8) bs) % 8 ≡ 0
 align-leaves bs = omega (arith, length-drop (length bs % 8) bs)
 
-align-takes : Takes Whole (λ n. align)
+pub align-takes : Takes Whole (λ n. align)
 unfolding Whole
 align-takes = record {
   takes = λ all bs left r h.
@@ -173,14 +173,14 @@ record Part (all a : ℕ) (room : ℕ → Bool) (n : ℕ) (bs : List ℕ) (xs : 
   bytes : length left % 8 ≡ 0
   ignored : (x after : List ℕ) → length x ≡ length padding → length after % 8 ≡ 0 → readPart all a room n (bits ++ x ++ after) ≡ read xs after
 
-Any : List ℕ → List ℕ → Type 0
+pub Any : List ℕ → List ℕ → Type 0
 Any x y = Unit {0}
 
-any-grow : (u x y : List ℕ) → Any x y → Any (u ++ x) (u ++ y)
+pub any-grow : (u x y : List ℕ) → Any x y → Any (u ++ x) (u ++ y)
 unfolding Any
 any-grow u x y m = tt
 
-passed : {A : Type 0} (b : Bool) (l bs : List ℕ) (k : Reader A) {r : A} {left : List ℕ} → andThen (require b l bs) (λ u. k) ≡ read r left → (b ≡ true) × (k bs ≡ read r left)
+pub passed : {A : Type 0} (b : Bool) (l bs : List ℕ) (k : Reader A) {r : A} {left : List ℕ} → andThen (require b l bs) (λ u. k) ≡ read r left → (b ≡ true) × (k bs ≡ read r left)
 passed true l bs k h = (refl, h)
 passed false l bs k h = refused-not-read h
 
@@ -215,7 +215,7 @@ part-of all a room n bs left xs h =
 off-length : (l : List ℕ) (n : ℕ) (bs left : List ℕ) (r : ℕ) → takeBits n l bs ≡ read r left → length bs ≡ n + length left
 off-length l n bs left r h = let w = were-enough l n bs h in let k : length left ≡ length (drop n bs) = ap length (w .2) in omega (arith, w .0, k, length-drop n bs)
 
-count-length : (l bs left : List ℕ) (r : ℕ) → leCount l bs ≡ read r left → length bs ≡ 32 + length left
+pub count-length : (l bs left : List ℕ) (r : ℕ) → leCount l bs ≡ read r left → length bs ≡ 32 + length left
 unfolding leCount
 count-length l bs left r h =
     let a = both (takeBits 8 l bs) _ h in
@@ -226,19 +226,19 @@ count-length l bs left r h =
     rw (← e) (omega (arith, off-length l 8 bs (a .between) (a .value) (a .first), off-length l 8 (a .between) (b .between) (b .value) (b .first), off-length l 8 (b .between) (c .between) (c .value) (c .first), off-length l 8 (c .between) (d .between) (d .value) (d .first)))
 
 -- what the readers of an image read, one after the other
-record Steps (all : ℕ) (room : ℕ → Bool) (bs : List ℕ) (p : Pairs) (left : List ℕ) : Type 0 where
-  count : ℕ
-  values : List ℤ
-  after-version : List ℕ
-  after-header : List ℕ
-  after-seqs : List ℕ
-  version-read : takeBits 8 (1 ∷ []) bs ≡ read 1 after-version
-  count-read : leCount (3 ∷ []) after-version ≡ read count after-header
-  seqs-read : readPart all 0 room count after-header ≡ read values after-seqs
-  secs-read : readPart all 1 room count after-seqs ≡ read (p .secs) left
-  patterns : p .seqs ≡ map pattern values
+pub record Steps (all : ℕ) (room : ℕ → Bool) (bs : List ℕ) (p : Pairs) (left : List ℕ) : Type 0 where
+  pub count : ℕ
+  pub values : List ℤ
+  pub after-version : List ℕ
+  pub after-header : List ℕ
+  pub after-seqs : List ℕ
+  pub version-read : takeBits 8 (1 ∷ []) bs ≡ read 1 after-version
+  pub count-read : leCount (3 ∷ []) after-version ≡ read count after-header
+  pub seqs-read : readPart all 0 room count after-header ≡ read values after-seqs
+  pub secs-read : readPart all 1 room count after-seqs ≡ read (p .secs) left
+  pub patterns : p .seqs ≡ map pattern values
 
-steps-of : (all : ℕ) (room : ℕ → Bool) (bs left : List ℕ) (p : Pairs) → readPairs all room bs ≡ read p left → Steps all room bs p left
+pub steps-of : (all : ℕ) (room : ℕ → Bool) (bs left : List ℕ) (p : Pairs) → readPairs all room bs ≡ read p left → Steps all room bs p left
 unfolding readPairs
 steps-of all room bs left p h =
     let version = both (takeBits 8 (1 ∷ []) bs) _ h in

@@ -9,4 +9,7 @@ pub mod Readers
 pub mod RoundTrip
 pub mod Counts
 pub mod Ignored
+pub mod Stops
+pub mod Cuts
+pub mod Rooms
 pub mod Unique

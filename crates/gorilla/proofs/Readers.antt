@@ -1,5 +1,5 @@
 -- What a call of `read_bits` says of the readers of bit lists. Assumes nothing.
-use Prim.Native.Nat.{ℕ, zero, suc, _+_, _-_, _*_, _≤_}
+use Prim.Native.Nat.{ℕ, zero, suc, _+_, _-_, _*_, _/_, _%_, _≤_}
 use mathlib.Core.Path.{_≡_, refl, sym, ap, ap₂, _∙_}
 use mathlib.Core.List.{List, [], _∷_, _++_}
 use native.Mathlib.Omega.{arith}
@@ -47,14 +47,17 @@ item-was all m bs = go (m bs)
     go (refused l) h = refused-not-read h
 
 -- the place by the bits left
-place-by : (all : ℕ) (bs : List ℕ) {left : ℕ} {r : Place} → left ≡ length bs → r ≡ placeOf (all - left) → placeOf (all - length bs) ≡ r
-place-by all bs e f = ap (λ (u : ℕ). placeOf (all - u)) (sym e) ∙ sym f
+abbrev pub At : ℕ → Place → Type 0
+At p r = (r .byte ≡ p / 8) × (r .bit ≡ p % 8)
+
+place-by : (all : ℕ) (bs : List ℕ) {left : ℕ} {r : Place} → left ≡ length bs → At (all - left) r → placeOf (all - length bs) ≡ r
+place-by all bs e f = ap (λ (u : ℕ). placeOf (all - u)) (sym e) ∙ sym (ap₂ {C = Place} (λ (x y : ℕ). record { byte = x; bit = y }) (f .0) (f .1))
 
 -- an item that is read, and one that is refused: it tells the place r from which on as many bits are left
 pub item-read : {A : Type 0} (all : ℕ) (m : Reader A) (bs : List ℕ) {x : A} {r : List ℕ} → m bs ≡ read x r → item all m bs ≡ read x r
 item-read all m bs h = ap (toldAt (all - length bs)) h
 
-pub item-refused : {A : Type 0} (all : ℕ) (m : Reader A) (bs : List ℕ) {l : List ℕ} {left : ℕ} {r : Place} → m bs ≡ refused l → left ≡ length bs → r ≡ placeOf (all - left)
+pub item-refused : {A : Type 0} (all : ℕ) (m : Reader A) (bs : List ℕ) {l : List ℕ} {left : ℕ} {r : Place} → m bs ≡ refused l → left ≡ length bs → At (all - left) r
     → item all m bs ≡ refused (l ++ (r .byte ∷ r .bit ∷ []))
 item-refused {A} all m bs {l} h e f =
     ap (toldAt (all - length bs)) h ∙ ap (λ (p : Place). refused (l ++ (p .byte ∷ p .bit ∷ []))) (place-by all bs e f)
@@ -68,7 +71,7 @@ module _ (s : List ℕ) (at : Place) (n : ℕ) (l : List ℕ) where
       item-read (length s * 8) (takeBits n l) (bitsFrom s at)
       (take-at l s n (posOf (length s) at) (g .within) ∙ ap₂ (λ (u p : ℕ). read u (drop p (bitsOf s))) (sym (g .value)) (sym (g .pos)))
 
-  pub ended : {left : ℕ} {r : Place} → toldRead (rv.Short left) ≡ readRule s at n → r ≡ placeOf (length s * 8 - left)
+  pub ended : {left : ℕ} {r : Place} → toldRead (rv.Short left) ≡ readRule s at n → At (length s * 8 - left) r
       → item (length s * 8) (takeBits n l) (bitsFrom s at) ≡ refused (l ++ (r .byte ∷ r .bit ∷ []))
   unfolding bitsFrom
   ended h e =
@@ -121,7 +124,7 @@ module _ (all a i n : ℕ) (bs : List ℕ) where
   code-read h k = rw (← h) (rw k)
 
   pub code-short : {r : List ℕ} {left : ℕ} {at : Place} → read n r ≡ countOnes a i 4 0 bs
-      → takeBits (getD widths n 0) (8 ∷ a ∷ i ∷ getD widths n 0 ∷ []) r ≡ refused (8 ∷ a ∷ i ∷ getD widths n 0 ∷ []) → left ≡ length bs → at ≡ placeOf (all - left)
+      → takeBits (getD widths n 0) (8 ∷ a ∷ i ∷ getD widths n 0 ∷ []) r ≡ refused (8 ∷ a ∷ i ∷ getD widths n 0 ∷ []) → left ≡ length bs → At (all - left) at
       → readCode all a i bs ≡ refused (8 ∷ a ∷ i ∷ getD widths n 0 ∷ at .byte ∷ at .bit ∷ [])
   unfolding readCode
   code-short h k e f = rw (← h) (rw k (ap (λ (p : Place). refused (8 ∷ a ∷ i ∷ getD widths n 0 ∷ p .byte ∷ p .bit ∷ [])) (place-by all bs e f)))

@@ -5,5 +5,6 @@ pub mod Parser
 pub mod Reading
 pub mod RoundTrip
 pub mod Ignored
+pub mod Stops
 pub mod Array
 pub mod Inner

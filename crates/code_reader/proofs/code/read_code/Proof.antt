@@ -93,9 +93,9 @@ width-of-requires c κs = few (c .before) (c .before .before .before .leading .e
 used-of-requires : tie.Need-used-of-requires
 used-of-requires c κs = few (c .before .before) (c .before .before .before .before .leading .ensures .0) .0
 
-add-bits : tie.Need-add-bits
+sub-left : tie.Need-sub-left
 unfolding Sizes
-add-bits c = omega (arith, sizes c)
+sub-left c = omega (arith, sizes (c .before))
 
 place-left-requires : tie.Need-place-left-requires
 place-left-requires c κs = search needs
@@ -107,7 +107,7 @@ returns c =
     let uo = c .before .before .before in
     let W : ℕ = uo .before .width-of .result in
     let U : ℕ = uo .used-of .result in
-    let l : w-of uo .have < U + W = c .before .if1 .taken in
+    let l : w-of uo .have < U + W = omega (arith, c .before .if1 .taken, sizes uo) in
     let f = sizes uo .1 in (
       tt,
       λ xs q z g.
@@ -120,6 +120,10 @@ returns c =
           ∙ sym (code-short (len-of uo * 8) (a-of uo) (i-of uo) (n-of (an-of uo)) (drop q (bitsOf xs)) (prefix-is uo xs q z g)
           (take-short _ xs (getD widths (n-of (an-of uo)) 0) (q + U) h k) (left-in z (omega arith)) (c .place-left .ensures)),
     )
+
+add-bits : tie.Need-add-bits
+unfolding Sizes
+add-bits c = omega (arith, sizes (c .before .before))
 
 sub-field : tie.Need-sub-field
 unfolding Sizes
@@ -149,7 +153,7 @@ returns-2 c =
     let uo = el .before .before in
     let W : ℕ = uo .before .width-of .result in
     let U : ℕ = uo .used-of .result in
-    let l : U + W ≤ w-of uo .have = el .if1 .left in
+    let l : U + W ≤ w-of uo .have = omega (arith, el .if1 .left, sizes uo) in
     let f : SFits w64 (c .diff-of .result) = search needs in (
       (omega (arith, sizes uo), l),
       λ xs q z g.
@@ -172,9 +176,10 @@ read-code-spec =
     enum-known-n
     width-of-requires
     used-of-requires
-    add-bits
+    sub-left
     place-left-requires
     returns
+    add-bits
     sub-field
     field-requires
     diff-of-requires

@@ -6,12 +6,11 @@ use mathlib.Core.List.{List, [], _∷_}
 use native.Mathlib.Nat.{add-zero}
 use lib.ListN.{length, drop}
 use Rattle.bit_lists.specs.BitList.{bitsOf}
-use Rattle.bits.specs.Place.{placeOf}
 use Rattle.bits.specs.declared.Place.{Place}
 use Rattle.gorilla.specs.Parser.{read, refused, item}
 use Rattle.gorilla.specs.Array.{arrayNo}
 use Rattle.gorilla.specs.Reading.{cutNumber, countOnes}
-use Rattle.gorilla.proofs.Readers.{at-zero, at-one, at-end, item-read, item-refused}
+use Rattle.gorilla.proofs.Readers.{at-zero, at-one, at-end, item-read, item-refused, At}
 use Rattle.code_reader.specs.Inner.{Holds}
 use Rattle.code_reader.specs.declared.window.Window.{Window}
 use Rattle.code_reader.proofs.Windows.{bit-off, none-off, left-in}
@@ -34,7 +33,7 @@ more : (w : Window) (a i n : ℕ) → n < 4 → Rest w a i n → (xs : List ℕ)
 more w a i n h r xs q k = let e : suc (3 - n) ≡ 4 - n = omega arith in ap (λ (u : ℕ). countOnes a i u n (drop (q + n) (bitsOf xs))) e ∙ r xs q k
 
 -- the end, after n ones: the place is that of the first of them
-cut : (w : Window) (a i n k len : ℕ) {at : Place} → n < 4 → n ≤ w .have → w .have ≤ n → k ≡ cutNumber n → at ≡ placeOf (len * 8 - w .have) → Rest w a i n
+cut : (w : Window) (a i n k len : ℕ) {at : Place} → n < 4 → n ≤ w .have → w .have ≤ n → k ≡ cutNumber n → At (len * 8 - w .have) at → Rest w a i n
     → (xs : List ℕ) (q : ℕ) → Holds xs q w → length xs ≡ len → refused (k ∷ a ∷ i ∷ at .byte ∷ at .bit ∷ []) ≡ item (len * 8) (countOnes a i 4 0) (drop q (bitsOf xs))
 cut w a i n k len h l m e f r xs q z g =
     let o : n ≡ w .have = omega arith in

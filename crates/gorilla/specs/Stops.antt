@@ -1,0 +1,51 @@
+-- Where an input stops: what it has from the place on that refusals 4 to 8 tell, and that an image which is cut off is refused.
+use Prim.Native.Nat.{ℕ, _+_, _-_, _*_, _/_, _≤_, _<_}
+use mathlib.Core.Path.{_≡_}
+use mathlib.Core.Bool.{Bool}
+use mathlib.Core.List.{List, [], _∷_, _++_}
+use lib.ListN.{length, getD, take, drop, replicate}
+use Rattle.bit_lists.specs.BitList.{bitsOf}
+use Rattle.gorilla.specs.Rows.{widths}
+use Rattle.gorilla.specs.Parser.{read, refused}
+use Rattle.gorilla.specs.Reading.{Pairs, readImage}
+
+-- the place lies within the input, or at its end
+abbrev pub PlaceIn : List ℕ → ℕ → ℕ → Type 0
+PlaceIn bytes byte bit = (bit < 8) × (byte * 8 + bit ≤ length bytes * 8)
+
+-- the bits of the input from the place on
+abbrev pub bitsOn : List ℕ → ℕ → ℕ → List ℕ
+bitsOn bytes byte bit = drop (byte * 8 + bit) (bitsOf bytes)
+
+-- the prefix of n ones: a zero after them, or four ones
+abbrev pub prefixOf : ℕ → List ℕ
+prefixOf n = take 4 (replicate n 1 ++ (0 ∷ []))
+
+-- what an input that is refused with l, one of 4 to 8, has from the place on which l tells
+pub data Stop (bytes l : List ℕ) : Type 0 where
+  -- too few bits for a count
+  count : (a byte bit : ℕ) → l ≡ 4 ∷ a ∷ byte ∷ bit ∷ [] → PlaceIn bytes byte bit → length (bitsOn bytes byte bit) < 32 → Stop bytes l
+  -- too few for a first value
+  first : (a byte bit : ℕ) → l ≡ 5 ∷ a ∷ byte ∷ bit ∷ [] → PlaceIn bytes byte bit → length (bitsOn bytes byte bit) < 64 → Stop bytes l
+  -- none
+  code : (a i byte bit : ℕ) → l ≡ 6 ∷ a ∷ i ∷ byte ∷ bit ∷ [] → PlaceIn bytes byte bit → bitsOn bytes byte bit ≡ [] → Stop bytes l
+  -- one to three ones
+  prefix : (a i byte bit k : ℕ) → l ≡ 7 ∷ a ∷ i ∷ byte ∷ bit ∷ [] → PlaceIn bytes byte bit → 1 ≤ k → k ≤ 3 → bitsOn bytes byte bit ≡ replicate k 1 → Stop bytes l
+  -- a prefix, and with it fewer bits than it and its width have together
+  difference : (a i n byte bit : ℕ) (rest : List ℕ) → l ≡ 8 ∷ a ∷ i ∷ getD widths n 0 ∷ byte ∷ bit ∷ [] → PlaceIn bytes byte bit → n ≤ 4
+      → bitsOn bytes byte bit ≡ prefixOf n ++ rest → length (bitsOn bytes byte bit) < length (prefixOf n) + getD widths n 0 → Stop bytes l
+
+-- so of any input, whoever wrote it
+abbrev pub StopsThere : Type 0
+StopsThere = (room : ℕ → Bool) (bytes l : List ℕ) → readImage room bytes ≡ refused l → 4 ≤ getD l 0 0 → getD l 0 0 ≤ 8 → Stop bytes l
+
+-- an input that ends before its image does: with no byte it is refused by 1, with one to four by 3, and with more by one of 4 to 8, with the place where it stops
+pub record CutOff (bytes : List ℕ) (Refused : List ℕ → Type 0) : Type 0 where
+  pub empty : length bytes ≡ 0 → Refused (1 ∷ [])
+  pub header : 1 ≤ length bytes → length bytes ≤ 4 → Refused (3 ∷ [])
+  pub arrays : 5 ≤ length bytes → (l : List ℕ) × Refused l × Stop bytes l
+
+-- so of any accepted input, cut after k bytes, where its image has more
+abbrev pub CutRefused : Type 0
+CutRefused = (room : ℕ → Bool) (bytes left : List ℕ) (p : Pairs) (k : ℕ)
+    → readImage room bytes ≡ read p left → k < length bytes - length left / 8 → CutOff (take k bytes) (λ l. readImage room (take k bytes) ≡ refused l)

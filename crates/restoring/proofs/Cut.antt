@@ -1,0 +1,28 @@
+-- What `restore` answers of an image that is cut off. Assumes nothing.
+use Prim.Native.Nat.{ℕ}
+use mathlib.Core.Path.{_≡_, refl, sym, ap}
+use mathlib.Core.Bool.{Bool, true, false, cond, _||_}
+use mathlib.Core.List.{List, [], _∷_}
+use lib.Dec.{leb, ltb}
+use lib.ListN.{length, take}
+use Rattle.told.specs.Told.{gave, refused}
+use Rattle.told.proofs.Unique.{given-not-refused}
+use Rattle.gorilla.specs.Parser.{Read, read}
+use Rattle.gorilla.specs.Parser as parser
+use Rattle.gorilla.specs.Reading.{Pairs}
+use Rattle.gorilla.specs.Stops.{CutOff}
+use Rattle.decoder.proofs.Cut.{cut-as, cut-before}
+use Rattle.restoring.specs.Restore.{readTable, judged}
+use Rattle.restoring.specs.Cut.{RestoreTellsWhere}
+
+pub restore-tells-where : RestoreTellsWhere
+restore-tells-where bytes seqs secs t n k h e o = go (ltb (length seqs) 8192 || ltb (length secs) 8192) h
+  where
+    read-then : (r : Read Pairs) → readTable bytes ≡ r → judged r ≡ gave t → CutOff (take k bytes) (λ l. judged (readTable (take k bytes)) ≡ refused l)
+    read-then (read p left) f g = cut-as (take k bytes) (λ l r. ap judged r) (cut-before (λ m. leb m 8192) bytes left p n k f e o)
+    read-then (parser.refused l) f g = given-not-refused (sym g)
+
+    go : (b : Bool) → cond b (refused (14 ∷ [])) (judged (readTable bytes)) ≡ gave t
+        → CutOff (take k bytes) (λ l. cond b (refused (14 ∷ [])) (judged (readTable (take k bytes))) ≡ refused l)
+    go true g = given-not-refused (sym g)
+    go false g = read-then (readTable bytes) refl g
