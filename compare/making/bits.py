@@ -39,6 +39,9 @@ def read_lists(chance):
     for width in range(65):
         yield full, [chance.between(0, 7), width]
         yield full[: (width + 7) // 8], [width, 1]
+    for left in range(64):
+        for width in sorted({left + 1, 64}):
+            yield full[:8], [64 - left, width]
     yield b"", [0, 1]
     yield b"", [64]
     yield b"\xff", [8, 0, 0, 1]
@@ -49,14 +52,30 @@ def read_lists(chance):
         yield data, [chance.of([0, 1, 2, 7, 8, 9, 12, 31, 32, 33, 63, 64]) for _ in range(chance.between(1, 10))]
 
 
+def read_all(oracle, lists):
+    """For each list the values read, the word `end` after them where the next read is refused."""
+    answers = oracle.ask(f"read {hexed(data)} " + " ".join(str(n) for n in widths) for data, widths in lists)
+    return [answer.split(" ")[1:] for answer in answers]
+
+
+def bits_left(oracle, lists, read):
+    """The bits that are left after the reads before the last one, which are as many single bits as can be read from there. Where the last one is refused
+    they are fewer than it asks for."""
+    single = [(data, widths[: len(got) - 1] + [1] * 64) for (data, widths), got in zip(lists, read)]
+    for (_, widths), got, bits in zip(lists, read, read_all(oracle, single)):
+        left = bits.index("end") - len(got) + 1 if "end" in bits else 64
+        if (got[-1] == "end") != (left < widths[len(got) - 1]):
+            raise ValueError(f"{widths}: {got}, and {left} bits left")
+        yield left
+
+
 def reads(oracle, records, chance):
     lists = list(read_lists(chance))
-    answers = oracle.ask(f"read {hexed(data)} " + " ".join(str(n) for n in widths) for data, widths in lists)
-    for (data, widths), answer in zip(lists, answers):
-        got = answer.split(" ")[1:]
+    read = read_all(oracle, lists)
+    for (data, widths), got, left in zip(lists, read, bits_left(oracle, lists, read)):
         body = u8(len(data)) + data + u8(len(got))
         for width, word in zip(widths, got):
-            body += u8(width) + (u8(END) + u64(0) if word == "end" else u8(0) + u64(int(word)))
+            body += u8(width) + (u8(END) + u64(left) if word == "end" else u8(0) + u64(int(word)))
         records.add("B", body, reads=len(got))
 
 

@@ -1,6 +1,7 @@
 """Encoded bytes, and images read back."""
 from . import images, lists
 from .oracle import State, hexed, image_of, listed, refusal
+from .places import arrays_of, places
 from .records import LISTED, digest, i64s, u8, u16, u32, u64, u64s
 
 ROOM = 8192  # the length of the arrays that the list reader is lent
@@ -28,18 +29,6 @@ def ruled_encodes(oracle, records):
         records.add("Y", body + u64(digest(back.seqs)) + u64(digest(back.secs)), encodings=1, readbacks=1, decodings=1)
 
 
-def arrays_of(oracle, datas):
-    """For each image, the bytes that its first array takes and its second, each None where it is refused."""
-    def taken(parts):
-        asked = [p for p in parts if p is not None]
-        told = dict(zip(asked, oracle.ask(f"decarr {hexed(p)}" for p in asked)))
-        return [int(told[p].split(" ")[1]) if p is not None and told[p].startswith("ok ") else None for p in parts]
-
-    firsts = taken([d[5:] for d in datas])
-    seconds = taken([d[5 + n :] if n is not None else None for d, n in zip(datas, firsts)])
-    return zip(firsts, seconds)
-
-
 def over_room(data, first, number, tells):
     """1 or 2 where the count of the first or the second array is above ROOM and is met: there refusal 10 is due."""
     if number in (1, 2, 3):
@@ -55,7 +44,8 @@ def over_room(data, first, number, tells):
 def decodes(oracle, records, chance):
     datas = list(dict.fromkeys(images.all_images(oracle, chance)))
     answers = oracle.ask(f"decode {hexed(d)}" for d in datas)
-    for data, answer, (first, second) in zip(datas, answers, arrays_of(oracle, datas)):
+    arrays, stops = arrays_of(oracle, datas), places(oracle, datas, answers)
+    for data, answer, (first, second), stop in zip(datas, answers, arrays, stops):
         if answer.startswith("ok "):
             state = State(answer.removeprefix("ok "))
             over = over_room(data, first, 0, 0)
@@ -68,7 +58,7 @@ def decodes(oracle, records, chance):
         else:
             number, tells = refusal(answer)
             over = over_room(data, first, number, tells)
-            told = u8(number) + u8(tells) + u8(over) + u16(len(data)) + data
+            told = u8(number) + u8(tells) + u8(over) + u16(len(data)) + data + stop
         if over:
             records.add("D", told, lengths=1)
         else:

@@ -1,7 +1,7 @@
 """The file of records. FORMAT.md says what each record has."""
 import struct
 
-MAGIC = b"SKV2"
+MAGIC = b"SKV3"
 LONGEST = 4096
 LISTED = 64  # the most values that a record lists; longer lists stand as digests
 

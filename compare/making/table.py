@@ -1,6 +1,7 @@
 """Tables: offers, what stands after them, lookups, extend_from, save and restore."""
 from .images import ALL_ROWS, P5, encoded, image
 from .oracle import REFUSED, State, hexed, image_of, listed, offered, refusal
+from .places import places
 from .reasons import RECORDED, TOO_SOON, WENT_BACK, outcome, outcomes
 from .records import LISTED, Rule, digest, i64, i64s, last, u8, u16, u32, u64, u64s
 
@@ -99,7 +100,8 @@ class Table:
     def restore(self, data):
         answer = self.step(f"restore {hexed(data)}")
         number, tells = (0, 0) if answer == "ok" else refusal(answer)
-        body = u8(number) + u8(tells) + u32(self.state.capacity) + u64(self.state.interval) + data
+        [stop] = places(self.oracle, [data], [answer])
+        body = u8(number) + u8(tells) + u32(self.state.capacity) + u64(self.state.interval) + stop + data
         self.records.add("R", body, restores=1)
         self.show()
 

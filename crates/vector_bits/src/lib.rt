@@ -60,12 +60,12 @@ pub fn writes(b: &[u8], tally: &mut [u64; tally::PLACES]) {
     );
 }
 
-// Whether a read gives a value, which has the number 0, or a refusal of that number.
+// Whether a read gives a value, which has the number 0, or a refusal of that number: for 24 the value is the bits left.
 fn read_so(read: BitsRead, number: usize, value: u64) -> bool {
     match read {
         BitsRead::Value(v, _) => (number == 0) & (v == value),
         BitsRead::Width => number == 23,
-        BitsRead::Short(_) => number == 24,
+        BitsRead::Short(left) => (number == 24) & (left as u64 == value),
     }
 }
 

@@ -56,7 +56,7 @@ fn list(b: &[u8], seqs: &[u64], secs: &[i64], tally: &mut [u64; tally::PLACES]) 
     );
     let mut strict = [255u8; 4096];
     let firm = encoded(encoder::encode_strict(seqs, secs, &mut strict));
-    let back = outcome::read_so(want, 0, n, b, 2, false);
+    let back = outcome::read_so(want, n, b, 2, false);
     tally::note(
         tally,
         tally::READBACKS,
@@ -93,7 +93,7 @@ fn long_list(b: &[u8], seqs: &[u64], secs: &[i64], tally: &mut [u64; tally::PLAC
     tally::note(
         tally,
         tally::DECODINGS,
-        outcome::read_so(image, 0, seqs.len(), b, 73, true),
+        outcome::read_so(image, seqs.len(), b, 73, true),
     );
     let mut strict = [0u8; ROOM];
     let firm = encoded(encoder::encode_strict(seqs, secs, &mut strict));

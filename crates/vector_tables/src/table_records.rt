@@ -11,7 +11,7 @@ use tracker::Second;
 use tracker::Seq;
 use tracker::SequenceTracker;
 use vector_bodies::lists;
-use vector_bodies::outcome::code_of;
+use vector_bodies::outcome::refused_so;
 use vector_bytes::i64_at;
 use vector_bytes::part;
 use vector_bytes::u8_at;
@@ -192,20 +192,21 @@ pub fn extended(b: &[u8], table: SequenceTracker, seqs: &mut [u64], secs: &mut [
     ran_so(logged_of(answer, table), told, u8_at(b, after(at, 6)))
 }
 
-// Whether a table has the settings of a record R, and the record the code of what restore answered.
-fn restored_so(b: &[u8], table: SequenceTracker, code: usize) -> Changed {
+// Whether a table has the settings of a record R, beside what restore answered.
+fn restored_so(b: &[u8], table: SequenceTracker, answered: bool) -> Changed {
     let capacity = table.capacity as usize == u32_at(b, 2);
     let settings = capacity & (table.interval_secs == u64_at(b, 6));
     Changed {
         table: table,
-        agreed: settings & (code == u16_at(b, 0)),
+        agreed: settings & answered,
     }
 }
 
 pub fn restored(b: &[u8], table: SequenceTracker, seqs: &mut [u64], secs: &mut [i64]) -> Changed {
-    match restoring::restore(part(b, 14, b.len()), seqs, secs) {
-        Restored::Table(next) => restored_so(b, next, 0),
-        Restored::Refused(why) => restored_so(b, table, number_of(why)),
-        Restored::NotDecoded(why) => restored_so(b, table, code_of(why)),
+    let code = u16_at(b, 0);
+    match restoring::restore(part(b, 22, b.len()), seqs, secs) {
+        Restored::Table(next) => restored_so(b, next, code == 0),
+        Restored::Refused(why) => restored_so(b, table, code == number_of(why)),
+        Restored::NotDecoded(why) => restored_so(b, table, refused_so(why, code, b, 14)),
     }
 }

@@ -20,11 +20,11 @@ fn is_encoding(b: &[u8]) -> bool {
     (n <= LISTED) & (b.len() >= 2 + 16 * n)
 }
 
-// An image that is refused, or its length and its values or two digests.
+// An image that is refused, and eight bytes that say where it stops; or its length and its values or two digests.
 fn is_image(b: &[u8]) -> bool {
     let size = u16_at(b, 3);
     if u8_at(b, 0) != 0 {
-        return b.len() == 5 + size;
+        return b.len() == 13 + size;
     }
     let n = u16_at(b, 7 + size);
     if n > LISTED {
@@ -62,7 +62,7 @@ fn is_counted(kind: u8, b: &[u8]) -> bool {
         b'O' => b.len() == 17,
         b'G' => (u32_at(b, 0) <= MOST) & (b.len() == 73),
         b'X' => is_listed(b, u8_at(b, 12), 20),
-        b'R' => b.len() >= 14,
+        b'R' => b.len() >= 22,
         _ => is_whole_codec(kind, b),
     }
 }

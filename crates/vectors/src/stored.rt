@@ -103,7 +103,7 @@ pub fn replay_all(
             input: Input::TooLong,
         };
     }
-    if (bytes.len() < HEAD) | !begins(bytes, b"SKV2") {
+    if (bytes.len() < HEAD) | !begins(bytes, b"SKV3") {
         return Replayed {
             records: 0,
             input: Input::Headless,

@@ -18,7 +18,7 @@ fn print_damage(records: usize, input: Input) -> bool {
     match input {
         Input::Whole => true,
         Input::TooLong => print_failed(records, b"it has more than 1048575 bytes"),
-        Input::Headless => print_failed(records, b"it does not begin with SKV2 and their number"),
+        Input::Headless => print_failed(records, b"it does not begin with SKV3 and their number"),
         Input::Cut => print_failed(records, b"it ends before the end of the next one"),
         Input::Unknown => print_failed(records, b"the next one is not as compare/FORMAT.md says"),
         Input::Followed => print_failed(records, b"bytes follow the last one"),
