@@ -4,10 +4,10 @@
 #include <stdio.h>
 
 /* The library was built for this layout. */
-_Static_assert(sizeof(struct skut_answer) == 32 && offsetof(struct skut_answer, a) == 8, "skut_answer");
+_Static_assert(sizeof(struct skut_answer) == 48 && offsetof(struct skut_answer, a) == 8 && offsetof(struct skut_answer, byte) == 32, "skut_answer");
 _Static_assert(sizeof(struct skut_state) == 32 && offsetof(struct skut_state, has_last) == 12, "skut_state");
 _Static_assert(sizeof(struct skut_tally) == 24 && offsetof(struct skut_tally, too_soon) == 16, "skut_tally");
-_Static_assert(sizeof(struct skut_table_answer) == 88 && offsetof(struct skut_table_answer, state) == 56, "skut_table_answer");
+_Static_assert(sizeof(struct skut_table_answer) == 104 && offsetof(struct skut_table_answer, state) == 72, "skut_table_answer");
 
 #define PLACES 8192
 
@@ -65,9 +65,11 @@ int main(void)
     }
     printf("%llu bytes\n", (unsigned long long)saved.a);
 
+    /* 4 to 8 tell the place at which the item begins that is not there in full. */
     said = skut_restore(image, saved.a - 1, seqs, PLACES, secs, PLACES);
     table = kept(table, said);
-    printf("one byte less: refused %u: %zu pairs\n", said.answer.number, table.count);
+    printf("one byte less: refused %u at byte %llu, bit %llu: %zu pairs\n", said.answer.number, (unsigned long long)said.answer.byte,
+           (unsigned long long)said.answer.bit, table.count);
 
     said = skut_restore(image, saved.a, seqs, PLACES, secs, PLACES);
     table = kept(table, said);

@@ -43,9 +43,9 @@ static void (*const skut_layout_used)(void) SKUT_KEPT = skut_layout_3;
 #endif
 
 /* What a call answers: number 0 and the values that it gives, or the number of its refusal and what that also tells. Values that are
- * not told are 0. 4 to 8 also tell the place at which the missing item begins: `byte` of the image, from 0 on, and `bit` of it, 0 the most significant. The
- * place is the start of the count (4), of the first value (5), or of the code with its prefix (6, 7, 8); where the image ends with whole items, it is the
- * image's end. In every other answer `byte` and `bit` are 0. */
+ * not told are 0. 4 to 8 also tell a place, at which the item begins that is not there in full: `byte` of the input, from 0 on, and `bit` of it, from 0, the most
+ * significant, to 7. The item is the count (4), the first value (5), or the code, which begins with its prefix (6, 7, 8). Where no bit of the item is there, the
+ * place is the input's end, and `byte` is the input's length. In every other answer `byte` and `bit` are 0. */
 struct skut_answer {
     uint32_t number;
     uint64_t a, b, c;
@@ -80,17 +80,17 @@ struct skut_table_answer {
 };
 
 /* The numbers. "Array" is 0 for the sequences and 1 for the seconds; an index or a position counts from 0. What is told stands in a, b, c in
- * the order named. */
+ * the order named. A place comes last, and stands in byte and bit. */
 enum {
     SKUT_DONE = 0,
     SKUT_EMPTY = 1,             /* the input is empty */
     SKUT_VERSION = 2,           /* the first byte is not 1, the version: the byte */
     SKUT_HEADER_CUT = 3,        /* the input has fewer than 5 bytes */
-    SKUT_COUNT_CUT = 4,         /* the input ends in an array's count: array */
-    SKUT_FIRST_CUT = 5,         /* the input ends in an array's first value: array */
-    SKUT_CODE_MISSING = 6,      /* the input ends before a code: array, index */
-    SKUT_PREFIX_CUT = 7,        /* the input ends in a code's prefix: array, index */
-    SKUT_DIFFERENCE_CUT = 8,    /* the input ends in a code's difference: array, index, width of the difference */
+    SKUT_COUNT_CUT = 4,         /* the input ends in an array's count: array; place of the count */
+    SKUT_FIRST_CUT = 5,         /* the input ends in an array's first value: array; place of the value */
+    SKUT_CODE_MISSING = 6,      /* the input ends before a code: array, index; place of the code, the input's end */
+    SKUT_PREFIX_CUT = 7,        /* the input ends in a code's prefix: array, index; place of the code */
+    SKUT_DIFFERENCE_CUT = 8,    /* the input ends in a code's difference: array, index, width of the difference; place of the code */
     SKUT_COUNT_DIFFERS = 9,     /* an array's count is not the header's: array */
     SKUT_TOO_MANY_PAIRS = 10,   /* an array's count is above the shorter lent array or, in skut_restore, above 8,192: array */
     SKUT_SEQUENCE_DROPS = 11,   /* a sequence is below the one before it: index */
@@ -106,7 +106,7 @@ enum {
     SKUT_ROOM = 21,             /* the output is too short: the bytes needed */
     SKUT_INPUT_TOO_LONG = 22,   /* the input of the program listing is above 16,384 bytes; no call here answers it */
     SKUT_WIDTH = 23,            /* a bit width is above 64, or outside 1..32 in sign extension */
-    SKUT_BITS_SHORT = 24        /* fewer bits are left than asked for: the bits left */
+    SKUT_BITS_SHORT = 24        /* fewer bits are left than asked for: the bits left, 0 to 63 */
 };
 
 /* Which of the kept keys answers a lookup. */
@@ -164,8 +164,8 @@ struct skut_answer skut_save(struct skut_state state, const uint64_t *seqs, size
 struct skut_answer skut_save_strict(struct skut_state state, const uint64_t *seqs, size_t seqs_len, const int64_t *secs, size_t secs_len, uint8_t *out, size_t out_len);
 
 /* The table of an image, of capacity 8,192 and interval 60, its pairs in arrays of at least 8,192 places, its last recorded second that of the last
- * pair: 14, 1 to 10, 11 to 13. Bytes after the image are ignored. skut_save_strict says when this is the table that was saved. Stack: 133,120 bytes; and, at its
- * first call in a program that is linked without -z now, what the dynamic linker takes to find memset and memcpy: 134,808 bytes in all were measured. */
+ * pair: 14, 1 to 10, 11 to 13; 4 to 8 with their place. Bytes after the image are ignored. skut_save_strict says when this is the table that was saved. Stack: 133,120 bytes; and, at its
+ * first call in a program that is linked without -z now, what the dynamic linker takes to find memset and memcpy: 134,816 bytes in all were measured. */
 struct skut_table_answer skut_restore(const uint8_t *bytes, size_t bytes_len, uint64_t *seqs, size_t seqs_len, int64_t *secs, size_t secs_len);
 
 /* ---- Images of two arrays, with no table */
@@ -179,10 +179,10 @@ struct skut_answer skut_encode(const uint64_t *seqs, size_t seqs_len, const int6
 /* The same, but an image that would read back as other values is refused: 18, 19, 20, 21. Stack: 640 bytes. */
 struct skut_answer skut_encode_strict(const uint64_t *seqs, size_t seqs_len, const int64_t *secs, size_t secs_len, uint8_t *out, size_t out_len);
 
-/* Fills two arrays, and a is the number of pairs: 1 to 10. Places from that number on keep what they held. Stack: 1,024 bytes. */
+/* Fills two arrays, and a is the number of pairs: 1 to 10, 4 to 8 with their place. The arrays' places from that number on keep what they held. Stack: 1,024 bytes. */
 struct skut_answer skut_decode(const uint8_t *bytes, size_t bytes_len, uint64_t *seqs, size_t seqs_len, int64_t *secs, size_t secs_len);
 
-/* The length of the image at the start of the bytes, in a: 1 to 9. Stack: 768 bytes. */
+/* The length of the image at the start of the bytes, in a: 1 to 9, 4 to 8 with their place. Stack: 768 bytes. */
 struct skut_answer skut_image_len(const uint8_t *bytes, size_t bytes_len);
 
 /* ---- Bits, the most significant first. A place is a byte and a bit of it; one past the end, or with a bit above 7, counts as the end. */
@@ -190,7 +190,7 @@ struct skut_answer skut_image_len(const uint8_t *bytes, size_t bytes_len);
 /* The low `bits` bits of a value as a signed number, by its 64 bits in a: 23. Stack: 256 bytes. */
 struct skut_answer skut_sign_extend(uint32_t val, uint8_t bits);
 
-/* Reads 0 to 64 bits: the value in a, the place after them in b and c: 23, 24. Stack: 256 bytes. */
+/* Reads 0 to 64 bits: the value in a, the place after them in b and c: 23, 24. With 24 a is how many bits are left from the place on. Stack: 256 bytes. */
 struct skut_answer skut_read_bits(const uint8_t *s, size_t s_len, size_t byte, uint8_t bit, uint8_t width);
 
 /* Writes the low 0 to 64 bits of a value: the place after them in a and b: 23, 21. The bits before the place stay, what is left of the last byte written

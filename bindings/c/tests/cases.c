@@ -22,15 +22,30 @@ void holds(const char *call, const char *when, int truth, const char *said, ...)
     printf("\n");
 }
 
-static int same(struct skut_answer got, uint32_t number, uint64_t a, uint64_t b, uint64_t c)
+static int same(struct skut_answer got, struct skut_answer due)
 {
-    return got.number == number && got.a == a && got.b == b && got.c == c;
+    return got.number == due.number && got.a == due.a && got.b == due.b && got.c == due.c && got.byte == due.byte && got.bit == due.bit;
+}
+
+/* An answer as text, in one of two places that are used in turn. */
+static const char *shown(struct skut_answer answer)
+{
+    static char texts[2][160];
+    static int turn;
+    char *text = texts[turn ^= 1];
+    snprintf(text, sizeof texts[0], "%u with %llu, %llu, %llu at byte %llu, bit %llu", answer.number, (unsigned long long)answer.a,
+             (unsigned long long)answer.b, (unsigned long long)answer.c, (unsigned long long)answer.byte, (unsigned long long)answer.bit);
+    return text;
+}
+
+void answers_all(const char *call, const char *when, struct skut_answer got, struct skut_answer due)
+{
+    holds(call, when, same(got, due), "expected %s, and it is %s", shown(due), shown(got));
 }
 
 void answers(const char *call, const char *when, struct skut_answer got, uint32_t number, uint64_t a, uint64_t b, uint64_t c)
 {
-    holds(call, when, same(got, number, a, b, c), "expected %u with %llu, %llu, %llu, and it is %u with %llu, %llu, %llu", number, (unsigned long long)a,
-          (unsigned long long)b, (unsigned long long)c, got.number, (unsigned long long)got.a, (unsigned long long)got.b, (unsigned long long)got.c);
+    answers_all(call, when, got, (struct skut_answer){number, a, b, c, 0, 0});
 }
 
 int same_state(struct skut_state one, struct skut_state other)
@@ -48,9 +63,10 @@ static int same_tally(struct skut_tally one, struct skut_tally other)
 static void has_state(const char *call, const char *when, struct skut_table_answer got, uint32_t number, uint64_t a, struct skut_tally tally,
                       struct skut_state state)
 {
-    int truth = same(got.answer, number, a, 0, 0) && same_tally(got.tally, tally) && same_state(got.state, state);
-    holds(call, when, truth, "the number is %u with %llu, %zu recorded, %zu went back, %zu too soon, count %zu, last %lld", got.answer.number,
-          (unsigned long long)got.answer.a, got.tally.recorded, got.tally.went_back, got.tally.too_soon, got.state.count, (long long)got.state.last);
+    struct skut_answer due = {number, a, 0, 0, 0, 0};
+    int truth = same(got.answer, due) && same_tally(got.tally, tally) && same_state(got.state, state);
+    holds(call, when, truth, "expected %s, and it is %s, %zu recorded, %zu went back, %zu too soon, count %zu, last %lld", shown(due), shown(got.answer),
+          got.tally.recorded, got.tally.went_back, got.tally.too_soon, got.state.count, (long long)got.state.last);
 }
 
 void gives(const char *call, const char *when, struct skut_table_answer got, struct skut_tally tally, struct skut_state state)
@@ -63,13 +79,17 @@ void stops(const char *call, const char *when, struct skut_table_answer got, uin
     has_state(call, when, got, number, tally.recorded + tally.went_back + tally.too_soon, tally, state);
 }
 
-void gives_none(const char *call, const char *when, struct skut_table_answer got, uint32_t number, uint64_t a)
+void gives_none_all(const char *call, const char *when, struct skut_table_answer got, struct skut_answer due)
 {
     const char *taker = taken_by(got.state);
-    int truth = same(got.answer, number, a, 0, 0) && same_tally(got.tally, NO_PAIR) && taker == NULL;
-    holds(call, when, truth, "expected %u with %llu and no state, and it is %u with %llu; it counts %zu, %zu, %zu; its state is taken by %s", number,
-          (unsigned long long)a, got.answer.number, (unsigned long long)got.answer.a, got.tally.recorded, got.tally.went_back, got.tally.too_soon,
-          taker == NULL ? "no call" : taker);
+    int truth = same(got.answer, due) && same_tally(got.tally, NO_PAIR) && taker == NULL;
+    holds(call, when, truth, "expected %s and no state, and it is %s; it counts %zu, %zu, %zu; its state is taken by %s", shown(due), shown(got.answer),
+          got.tally.recorded, got.tally.went_back, got.tally.too_soon, taker == NULL ? "no call" : taker);
+}
+
+void gives_none(const char *call, const char *when, struct skut_table_answer got, uint32_t number, uint64_t a)
+{
+    gives_none_all(call, when, got, (struct skut_answer){number, a, 0, 0, 0, 0});
 }
 
 int all_passed(void)

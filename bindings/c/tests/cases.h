@@ -16,8 +16,11 @@
 /* A case, and what is said of it if it failed, as by printf. */
 void holds(const char *call, const char *when, int truth, const char *said, ...);
 
-/* The number and the values of an answer. */
+/* The number and the values of an answer, which tells no place. */
 void answers(const char *call, const char *when, struct skut_answer got, uint32_t number, uint64_t a, uint64_t b, uint64_t c);
+
+/* An answer, with its place. */
+void answers_all(const char *call, const char *when, struct skut_answer got, struct skut_answer due);
 
 /* A call that is not refused: what it counts, and its state. */
 void gives(const char *call, const char *when, struct skut_table_answer got, struct skut_tally tally, struct skut_state state);
@@ -25,8 +28,11 @@ void gives(const char *call, const char *when, struct skut_table_answer got, str
 /* A list of offers that is refused at a record: the number; the position, to which the tally adds up; and the state that those before it left. */
 void stops(const char *call, const char *when, struct skut_table_answer got, uint32_t number, struct skut_tally tally, struct skut_state state);
 
-/* A call that is refused and gives no state: what it answers, that it counts nothing, and that every call refuses the state that stands there. */
+/* A call that is refused and gives no state: what it answers, that it counts nothing, and that every call refuses the state that stands there. Its only value is a. */
 void gives_none(const char *call, const char *when, struct skut_table_answer got, uint32_t number, uint64_t a);
+
+/* The same of any answer, with its place. */
+void gives_none_all(const char *call, const char *when, struct skut_table_answer got, struct skut_answer due);
 
 /* The call that does not refuse a state by 14, where there is one. */
 const char *taken_by(struct skut_state state);
@@ -37,6 +43,7 @@ void null_cases(void);
 void refused_cases(void);
 void claim_cases(void);
 void reason_cases(void);
+void place_cases(void);
 
 /* Prints `N passed, M failed`, and gives whether nothing failed. */
 int all_passed(void);

@@ -10,5 +10,6 @@ int main(void)
     refused_cases();
     claim_cases();
     reason_cases();
+    place_cases();
     return all_passed() ? 0 : 1;
 }

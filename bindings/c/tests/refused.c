@@ -53,7 +53,7 @@ static void without_state(struct skut_state good, struct skut_state fresh)
     gives_none("skut_offer_pairs", "18 has no state", skut_offer_pairs(good, KEPT, one, 1, NONE), SKUT_LENGTHS_DIFFER, 0);
     gives_none("skut_extend_from", "14 of the own table has no state", skut_extend_from(bad, KEPT, fresh, OTHER), SKUT_STATE_DISAGREES, 0);
     gives_none("skut_extend_from", "14 of the other table has no state", skut_extend_from(good, KEPT, bad, OTHER), SKUT_STATE_DISAGREES, 1);
-    gives_none("skut_restore", "4 has no state", skut_restore(cut, sizeof cut, KEPT), SKUT_COUNT_CUT, 1);
+    gives_none_all("skut_restore", "4 has no state", skut_restore(cut, sizeof cut, KEPT), (struct skut_answer){SKUT_COUNT_CUT, .a = 1, .byte = 9});
 }
 
 /* Tables whose kept pairs are refused. */

@@ -1,15 +1,23 @@
 //! Bits of bytes, the most significant first. The numbers are those of the list of refusals in docs/RULES.md.
 use crate::calls::{self, done};
 use crate::Error;
+use std::fmt;
 
-/// A place between bits: a byte, and a bit of it from 0 to 7. One past the end, or with a bit above 7, counts as the end.
+/// A place between bits: a byte, counted from 0, and a bit of it from 0, the most significant, to 7. For the calls here one past the end, or with a bit above 7,
+/// counts as the end. Where an image stops is told by one: [`Error::place`].
 #[derive(Clone, Copy, Debug, Default, PartialEq, Eq, PartialOrd, Ord, Hash)]
 pub struct Place {
     pub byte: usize,
     pub bit: u8,
 }
 
-/// Reads 0 to 64 bits: their value, and the place after them. Refused where the width is above 64 (23), then where fewer bits are left (24).
+impl fmt::Display for Place {
+    fn fmt(&self, f: &mut fmt::Formatter<'_>) -> fmt::Result {
+        write!(f, "byte {}, bit {}", self.byte, self.bit)
+    }
+}
+
+/// Reads 0 to 64 bits: their value, and the place after them. Refused where the width is above 64 (23), then where fewer bits are left (24, with how many are).
 pub fn read_bits(bytes: &[u8], at: Place, width: u8) -> Result<(u64, Place), Error> {
     let read = done(calls::read_bits(bytes, at.byte, at.bit, width))?;
     Ok((read.a, Place { byte: read.b as usize, bit: read.c as u8 }))

@@ -1,4 +1,5 @@
 //! Refusals, by the numbers of the list of refusals in docs/RULES.md.
+use crate::bits::Place;
 use crate::sys::Answer;
 use std::fmt;
 
@@ -32,6 +33,21 @@ impl fmt::Display for Array {
 
 /// Why a call was refused: a number of the list of refusals in docs/RULES.md, with what it also tells. `array` says which of the two it was, and `index`,
 /// counted from 0, at which of its values.
+///
+/// `at`, of 4 to 8, says where the bytes stop: it is the place, in the bytes that were read, at which the item begins that is not there in full. What stands before it
+/// was read. [`Error::place`] gives it for all five.
+///
+/// ```no_run
+/// # use skutlaneb::{bits::Place, SequenceTracker, TrackedSeq};
+/// # fn main() -> Result<(), Box<dyn std::error::Error>> {
+/// let mut tracker = SequenceTracker::new();
+/// tracker.insert_all(&[(100, 0), (164, 60)].map(TrackedSeq::from))?;
+/// let stored = tracker.to_bytes_strict()?; // 33 bytes; the last code, of 9 bits, begins at byte 31
+/// let error = SequenceTracker::from_bytes(&stored[..32]).unwrap_err();
+/// assert_eq!((error.number(), error.place()), (8, Some(Place { byte: 31, bit: 0 })));
+/// # Ok(())
+/// # }
+/// ```
 #[derive(Clone, Copy, Debug, PartialEq, Eq, Hash)]
 #[non_exhaustive]
 pub enum Error {
@@ -41,16 +57,16 @@ pub enum Error {
     Version { byte: u8 },
     /// 3: the input has fewer than 5 bytes.
     HeaderCut,
-    /// 4: the input ends in an array's count.
-    CountCut { array: Array },
-    /// 5: the input ends in an array's first value.
-    FirstCut { array: Array },
-    /// 6: the input ends before a code.
-    CodeMissing { array: Array, index: u64 },
-    /// 7: the input ends in a code's prefix.
-    PrefixCut { array: Array, index: u64 },
-    /// 8: the input ends in a code's difference, of so many bits.
-    DifferenceCut { array: Array, index: u64, width: u64 },
+    /// 4: the input ends in an array's count, which begins at `at`. Fewer than 32 bits follow that place.
+    CountCut { array: Array, at: Place },
+    /// 5: the input ends in an array's first value, which begins at `at`. Fewer than 64 bits follow that place.
+    FirstCut { array: Array, at: Place },
+    /// 6: the input ends before a code, which would begin at `at`. That place is the input's end.
+    CodeMissing { array: Array, index: u64, at: Place },
+    /// 7: the input ends in the prefix of a code, which begins at `at`. One to three bits follow that place, all ones.
+    PrefixCut { array: Array, index: u64, at: Place },
+    /// 8: the input ends in a code's difference, of `width` bits. The code begins at `at`, with its prefix, and the difference after that.
+    DifferenceCut { array: Array, index: u64, width: u64, at: Place },
     /// 9: an array's count is not the header's.
     CountDiffers { array: Array },
     /// 10: an array has more values than there is room for.
@@ -81,8 +97,8 @@ pub enum Error {
     InputTooLong,
     /// 23: a bit width is above 64, or outside 1..32 in sign extension.
     Width,
-    /// 24: fewer bits are left than asked for.
-    BitsShort,
+    /// 24: fewer bits are left than asked for, and how many are: 0 to 63.
+    BitsShort { left: u8 },
     /// A number that is not on the list: the library is not the one that this crate was written for.
     Unlisted { number: u32 },
 }
@@ -114,24 +130,34 @@ impl Error {
             Error::Room { .. } => 21,
             Error::InputTooLong => 22,
             Error::Width => 23,
-            Error::BitsShort => 24,
+            Error::BitsShort { .. } => 24,
             Error::Unlisted { number } => number,
+        }
+    }
+
+    /// Where the bytes stop: the place of 4 to 8, at which the item begins that is not there in full. The others tell none.
+    pub fn place(&self) -> Option<Place> {
+        match *self {
+            Error::CountCut { at, .. } | Error::FirstCut { at, .. } => Some(at),
+            Error::CodeMissing { at, .. } | Error::PrefixCut { at, .. } | Error::DifferenceCut { at, .. } => Some(at),
+            _ => None,
         }
     }
 
     /// The refusal that an answer of [`crate::sys`] tells, or none where the call was not refused.
     pub fn of(answer: &Answer) -> Option<Error> {
         let (array, index) = (Array::of(answer.a), answer.b);
+        let at = Place { byte: answer.byte as usize, bit: answer.bit as u8 };
         Some(match answer.number {
             0 => return None,
             1 => Error::Empty,
             2 => Error::Version { byte: answer.a as u8 },
             3 => Error::HeaderCut,
-            4 => Error::CountCut { array },
-            5 => Error::FirstCut { array },
-            6 => Error::CodeMissing { array, index },
-            7 => Error::PrefixCut { array, index },
-            8 => Error::DifferenceCut { array, index, width: answer.c },
+            4 => Error::CountCut { array, at },
+            5 => Error::FirstCut { array, at },
+            6 => Error::CodeMissing { array, index, at },
+            7 => Error::PrefixCut { array, index, at },
+            8 => Error::DifferenceCut { array, index, width: answer.c, at },
             9 => Error::CountDiffers { array },
             10 => Error::TooManyPairs { array },
             11 => Error::SequenceDrops { index: answer.a },
@@ -147,7 +173,7 @@ impl Error {
             21 => Error::Room { bytes: answer.a },
             22 => Error::InputTooLong,
             23 => Error::Width,
-            24 => Error::BitsShort,
+            24 => Error::BitsShort { left: answer.a as u8 },
             number => Error::Unlisted { number },
         })
     }
@@ -155,16 +181,19 @@ impl Error {
 
 impl fmt::Display for Error {
     fn fmt(&self, f: &mut fmt::Formatter<'_>) -> fmt::Result {
+        if let Some(at) = self.place() {
+            write!(f, "the image stops at {at}, where ")?;
+        }
         match self {
             Error::Empty => f.write_str("there are no bytes to read a table from"),
             Error::Version { byte } => write!(f, "the bytes start with version {byte}, and only version 1 is known"),
             Error::HeaderCut => f.write_str("the bytes end within the header, which has 5 bytes"),
-            Error::CountCut { array } => write!(f, "the bytes end within the count of the {array}"),
-            Error::FirstCut { array } => write!(f, "the bytes end within the first of the {array}"),
-            Error::CodeMissing { array, index } => write!(f, "the bytes end before value {index} of the {array}"),
-            Error::PrefixCut { array, index } => write!(f, "the bytes end within the prefix of value {index} of the {array}"),
-            Error::DifferenceCut { array, index, width } => {
-                write!(f, "the bytes end within the {width} bits of value {index} of the {array}")
+            Error::CountCut { array, .. } => write!(f, "the count of the {array} begins: its 32 bits are not all there"),
+            Error::FirstCut { array, .. } => write!(f, "the first of the {array} begins: its 64 bits are not all there"),
+            Error::CodeMissing { array, index, .. } => write!(f, "the code of value {index} of the {array} would begin: no bit of it is there"),
+            Error::PrefixCut { array, index, .. } => write!(f, "the code of value {index} of the {array} begins: its prefix is not all there"),
+            Error::DifferenceCut { array, index, width, .. } => {
+                write!(f, "the code of value {index} of the {array} begins: the {width} bits after its prefix are not all there")
             }
             Error::CountDiffers { array } => write!(f, "the {array} are not as many as the header says"),
             Error::TooManyPairs { array } => write!(f, "the {array} are more than there is room for"),
@@ -184,7 +213,9 @@ impl fmt::Display for Error {
             Error::Room { bytes } => write!(f, "the output is too short: {bytes} bytes are needed"),
             Error::InputTooLong => f.write_str("the input has more than 16,384 bytes"),
             Error::Width => f.write_str("so many bits cannot be read, written or extended at once"),
-            Error::BitsShort => f.write_str("fewer bits are left than were asked for"),
+            Error::BitsShort { left: 0 } => f.write_str("no bit is left, and more were asked for"),
+            Error::BitsShort { left: 1 } => f.write_str("only 1 bit is left, and more were asked for"),
+            Error::BitsShort { left } => write!(f, "only {left} bits are left, and more were asked for"),
             Error::Unlisted { number } => {
                 write!(f, "the library answered {number}, which this crate does not know: the two are of different versions")
             }

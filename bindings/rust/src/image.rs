@@ -38,7 +38,7 @@ pub fn encode_strict(seqs: &[u64], secs: &[i64], out: &mut [u8]) -> Result<usize
 }
 
 /// Reads the image at the start of the bytes into two arrays, and answers the number of pairs; places from there on keep what they held. Refused by 1 to 10:
-/// by 10 where an array's count is above the shorter of the two slices.
+/// by 10 where an array's count is above the shorter of the two slices. 4 to 8 tell where the bytes stop, here and below: [`Error::place`].
 pub fn decode(bytes: &[u8], seqs: &mut [u64], secs: &mut [i64]) -> Result<usize, Error> {
     done(calls::decode(bytes, seqs, secs)).map(|told| told.a as usize)
 }

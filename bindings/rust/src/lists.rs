@@ -29,8 +29,8 @@ impl From<sys::Tally> for Tally {
 
 /// Why a list of offers did not go to its end. Its sentence says where it stopped; [`ListError::why`] and `source` say why.
 ///
-/// A `ListError` becomes an [`Error`], by `?` too, which drops the place. An `Error` becomes a `ListError`, so that a function which restores a table and then offers
-/// a list to it has one error type; it says neither at which pair nor of which table it is, so it becomes [`ListError::Apart`], and no place is made up.
+/// A `ListError` becomes an [`Error`], by `?` too, which drops the position. An `Error` becomes a `ListError`, so that a function which restores a table and then offers
+/// a list to it has one error type; it says neither at which pair nor of which table it is, so it becomes [`ListError::Apart`], and no position is made up.
 #[derive(Clone, Copy, Debug, PartialEq, Eq, Hash)]
 pub enum ListError {
     /// The pair at this position, counted from 0, is refused. Those before it were offered, and the table keeps what came of them; `before` counts them.

@@ -5,9 +5,9 @@
 //! changes during the call, aligned as its type asks, and what is written to overlaps nothing else of the same call; a length of 0 needs no memory.
 
 /// Number 0 and the values that a call gives, or the number of its refusal and what that also tells. `byte` and `bit` are the place that 4 to 8 tell: the byte of
-/// the image, from 0 on, and the bit of it, 0 the most significant, at which the missing item begins. In every other answer they are 0.
+/// the input, from 0 on, and the bit of it, from 0, the most significant, to 7, at which the item begins that is not there in full. In every other answer they are 0.
 #[repr(C)]
-#[derive(Clone, Copy, Debug, PartialEq, Eq)]
+#[derive(Clone, Copy, Debug, Default, PartialEq, Eq)]
 pub struct Answer {
     pub number: u32,
     pub a: u64,

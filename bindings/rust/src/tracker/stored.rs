@@ -54,7 +54,7 @@ impl SequenceTracker {
     }
 
     /// The table of an image, of capacity 8,192 and interval 60; its last recorded second is the last one kept. Refused by 1 to 13; by 10 where it
-    /// has more than 8,192 pairs. Bytes after the image are ignored. Needs 130 KB of stack.
+    /// has more than 8,192 pairs. 4 to 8 tell where the bytes stop: [`Error::place`]. Bytes after the image are ignored. Needs 130 KB of stack.
     ///
     /// The image has no checksum. Bytes that were changed in storage are refused, or read as the table of which they are the image:
     ///

@@ -6,6 +6,7 @@ use skutlaneb::Error;
 pub const CASES: &[Case] = &[
     ("bits are written at a place and read from it", there_and_back),
     ("bits that are not there are refused by 21, 23, 24", refused),
+    ("24 tells how many bits are left, at any place and for any width", left),
     ("numbers are extended by their top bit", extended),
 ];
 
@@ -25,12 +26,36 @@ fn there_and_back() {
 fn refused() {
     let mut buf = [5; 2];
     assert_eq!(read_bits(&buf, START, 65), Err(Error::Width));
-    assert_eq!(read_bits(&buf, START, 17), Err(Error::BitsShort));
-    assert_eq!(read_bits(&buf, Place { byte: 0, bit: 8 }, 1), Err(Error::BitsShort));
-    assert_eq!(read_bits(&buf, Place { byte: usize::MAX, bit: 0 }, 1), Err(Error::BitsShort));
+    assert_eq!(read_bits(&buf, START, 17), Err(Error::BitsShort { left: 16 }));
+    assert_eq!(read_bits(&buf, Place { byte: 0, bit: 8 }, 1), Err(Error::BitsShort { left: 0 }));
+    assert_eq!(read_bits(&buf, Place { byte: usize::MAX, bit: 0 }, 1), Err(Error::BitsShort { left: 0 }));
     assert_eq!(write_bits(&mut buf, START, 0, 65), Err(Error::Width));
     assert_eq!(write_bits(&mut buf, START, 0, 17), Err(Error::Room { bytes: 3 }));
     assert_eq!(buf, [5; 2]);
+}
+
+fn left() {
+    let bytes = [0x5A; 10];
+    let places =
+        [0, 1, 2, 7, 8, 9, 10, 11, usize::MAX / 8, usize::MAX].into_iter().flat_map(|byte| [0, 1, 3, 7, 8, 9, 255].map(|bit| Place { byte, bit }));
+    for (at, length) in places.flat_map(|at| [0, 1, 2, 9, 10].map(|length| (at, length))) {
+        // Past the end, and with a bit above 7, a place counts as the end.
+        let inside = at.byte < length && at.bit < 8;
+        let left = if inside { 8 * (length - at.byte) - usize::from(at.bit) } else { 0 };
+        for width in 0..=64 {
+            match read_bits(&bytes[..length], at, width) {
+                Ok(_) => assert!(usize::from(width) <= left, "{width} bits at {at} of {length} bytes"),
+                refused => {
+                    assert_eq!((refused, left < usize::from(width)), (Err(Error::BitsShort { left: left as u8 }), true), "at {at} of {length} bytes")
+                }
+            }
+        }
+        assert_eq!(read_bits(&bytes[..length], at, 65), Err(Error::Width));
+    }
+    // What is left can be read.
+    let at = Place { byte: 8, bit: 3 };
+    assert_eq!(read_bits(&bytes, at, 64), Err(Error::BitsShort { left: 13 }));
+    assert_eq!(read_bits(&bytes, at, 13), Ok((0x1A5A, Place { byte: 10, bit: 0 })));
 }
 
 fn extended() {

@@ -1,17 +1,20 @@
 //! Refusals, by number and in words.
 use crate::run::Case;
+use skutlaneb::bits::Place;
 use skutlaneb::sys::Answer;
 use skutlaneb::{Array, Error};
 
 pub const CASES: &[Case] = &[
     ("each of the 24 numbers is an error of that number", numbers),
     ("what a number also tells stands in the error", told),
+    ("4 to 8 have a place, and no other", placed),
     ("each error has a sentence of its own", sentences),
+    ("the sentences of 4 to 8 say where the image stops, and that of 24 what is left", where_it_stops),
     ("a number that is not on the list is told as such", unlisted),
 ];
 
 fn answer(number: u32) -> Answer {
-    Answer { number, a: 1, b: 7, c: 9 }
+    Answer { number, a: 1, b: 7, c: 9, byte: 17, bit: 5 }
 }
 
 fn numbers() {
@@ -24,14 +27,14 @@ fn numbers() {
 }
 
 fn told() {
-    let (array, index) = (Array::Seconds, 7);
+    let (array, index, at) = (Array::Seconds, 7, Place { byte: 17, bit: 5 });
     let expected = [
         (2, Error::Version { byte: 1 }),
-        (4, Error::CountCut { array }),
-        (5, Error::FirstCut { array }),
-        (6, Error::CodeMissing { array, index }),
-        (7, Error::PrefixCut { array, index }),
-        (8, Error::DifferenceCut { array, index, width: 9 }),
+        (4, Error::CountCut { array, at }),
+        (5, Error::FirstCut { array, at }),
+        (6, Error::CodeMissing { array, index, at }),
+        (7, Error::PrefixCut { array, index, at }),
+        (8, Error::DifferenceCut { array, index, width: 9, at }),
         (9, Error::CountDiffers { array }),
         (10, Error::TooManyPairs { array }),
         (11, Error::SequenceDrops { index: 1 }),
@@ -39,11 +42,20 @@ fn told() {
         (13, Error::SecondOutside { index: 1 }),
         (20, Error::Wide { array, index }),
         (21, Error::Room { bytes: 1 }),
+        (24, Error::BitsShort { left: 1 }),
     ];
     for (number, error) in expected {
         assert_eq!(Error::of(&answer(number)), Some(error));
     }
-    assert_eq!(Error::of(&Answer { number: 4, a: 0, b: 0, c: 0 }), Some(Error::CountCut { array: Array::Sequences }));
+    let least = Error::CountCut { array: Array::Sequences, at: Place::default() };
+    assert_eq!(Error::of(&Answer { number: 4, ..Answer::default() }), Some(least));
+}
+
+fn placed() {
+    for number in 1..=25 {
+        let place = Error::of(&answer(number)).and_then(|error| error.place());
+        assert_eq!(place, (4..=8).contains(&number).then_some(Place { byte: 17, bit: 5 }));
+    }
 }
 
 fn sentences() {
@@ -53,6 +65,34 @@ fn sentences() {
     all.dedup();
     assert_eq!(all.len(), 24);
     assert_eq!(Error::Version { byte: 2 }.to_string(), "the bytes start with version 2, and only version 1 is known");
+}
+
+fn where_it_stops() {
+    let (array, at) = (Array::Sequences, Place { byte: 17, bit: 0 });
+    let seconds = Place { byte: 1_000_000, bit: 7 };
+    let said = [
+        (Error::CountCut { array, at }, "the image stops at byte 17, bit 0, where the count of the sequences begins: its 32 bits are not all there"),
+        (Error::FirstCut { array, at }, "the image stops at byte 17, bit 0, where the first of the sequences begins: its 64 bits are not all there"),
+        (
+            Error::CodeMissing { array, index: 1, at },
+            "the image stops at byte 17, bit 0, where the code of value 1 of the sequences would begin: no bit of it is there",
+        ),
+        (
+            Error::PrefixCut { array: Array::Seconds, index: 8, at: seconds },
+            "the image stops at byte 1000000, bit 7, where the code of value 8 of the seconds begins: its prefix is not all there",
+        ),
+        (
+            Error::DifferenceCut { array, index: 1, width: 7, at },
+            "the image stops at byte 17, bit 0, where the code of value 1 of the sequences begins: the 7 bits after its prefix are not all there",
+        ),
+        (Error::BitsShort { left: 0 }, "no bit is left, and more were asked for"),
+        (Error::BitsShort { left: 1 }, "only 1 bit is left, and more were asked for"),
+        (Error::BitsShort { left: 63 }, "only 63 bits are left, and more were asked for"),
+    ];
+    for (error, sentence) in said {
+        assert_eq!(error.to_string(), sentence);
+    }
+    assert_eq!(at.to_string(), "byte 17, bit 0");
 }
 
 fn unlisted() {

@@ -1,6 +1,7 @@
 //! Images: written, read back, damaged.
 use crate::run::Case;
 use crate::tables::{kept, pair, table};
+use skutlaneb::bits::Place;
 use skutlaneb::image::encode_pairs;
 use skutlaneb::{Array, Error, FindOption, Inserted, SequenceTracker};
 
@@ -80,18 +81,19 @@ fn between_offers() {
 
 fn cut() {
     let (q, s) = (Array::Sequences, Array::Seconds);
+    let at = |byte| Place { byte, bit: 0 };
     for n in 0..TWO_PAIRS.len() {
         let refused = match n {
             0 => Error::Empty,
             1..=4 => Error::HeaderCut,
-            5..=8 => Error::CountCut { array: q },
-            9..=16 => Error::FirstCut { array: q },
-            17 => Error::CodeMissing { array: q, index: 1 },
-            18 => Error::DifferenceCut { array: q, index: 1, width: 9 },
-            19..=22 => Error::CountCut { array: s },
-            23..=30 => Error::FirstCut { array: s },
-            31 => Error::CodeMissing { array: s, index: 1 },
-            _ => Error::DifferenceCut { array: s, index: 1, width: 7 },
+            5..=8 => Error::CountCut { array: q, at: at(5) },
+            9..=16 => Error::FirstCut { array: q, at: at(9) },
+            17 => Error::CodeMissing { array: q, index: 1, at: at(17) },
+            18 => Error::DifferenceCut { array: q, index: 1, width: 9, at: at(17) },
+            19..=22 => Error::CountCut { array: s, at: at(19) },
+            23..=30 => Error::FirstCut { array: s, at: at(23) },
+            31 => Error::CodeMissing { array: s, index: 1, at: at(31) },
+            _ => Error::DifferenceCut { array: s, index: 1, width: 7, at: at(31) },
         };
         assert_eq!(SequenceTracker::from_bytes(&TWO_PAIRS[..n]), Err(refused), "cut after {n} bytes");
     }

@@ -7,6 +7,7 @@ mod errors;
 mod images;
 mod lists;
 mod pairs;
+mod places;
 mod raw;
 mod reasons;
 mod run;
@@ -17,7 +18,7 @@ mod values;
 
 #[no_mangle]
 pub extern "C" fn main(_argc: i32, _argv: *const *const u8) -> i32 {
-    let tracker = [tables::CASES, pairs::CASES, lists::CASES, reasons::CASES, images::CASES, claims::CASES];
+    let tracker = [tables::CASES, pairs::CASES, lists::CASES, reasons::CASES, images::CASES, places::CASES, claims::CASES];
     let others = [values::CASES, times::CASES, errors::CASES, arrays::CASES, bits::CASES, raw::CASES, stack::CASES];
     run::run(&[tracker.concat(), others.concat()].concat())
 }

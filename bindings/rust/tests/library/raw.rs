@@ -12,13 +12,15 @@ pub const CASES: &[Case] = &[
     ("lists of different length are refused by 18, before the table", uneven),
 ];
 
-// A change here is a change of the number in `skut_layout_2`.
+// A change here is a change of the number in `skut_layout_3`.
 fn layout() {
-    assert_eq!((size_of::<Answer>(), offset_of!(Answer, a), offset_of!(Answer, b), offset_of!(Answer, c)), (32, 8, 16, 24));
+    assert_eq!((size_of::<Answer>(), offset_of!(Answer, number)), (48, 0));
+    assert_eq!((offset_of!(Answer, a), offset_of!(Answer, b), offset_of!(Answer, c)), (8, 16, 24));
+    assert_eq!((offset_of!(Answer, byte), offset_of!(Answer, bit)), (32, 40));
     assert_eq!((size_of::<State>(), offset_of!(State, capacity), offset_of!(State, has_last)), (32, 8, 12));
     assert_eq!((offset_of!(State, interval_secs), offset_of!(State, last)), (16, 24));
     assert_eq!((size_of::<Tally>(), offset_of!(Tally, recorded), offset_of!(Tally, went_back), offset_of!(Tally, too_soon)), (24, 0, 8, 16));
-    assert_eq!((size_of::<TableAnswer>(), offset_of!(TableAnswer, tally), offset_of!(TableAnswer, state)), (88, 32, 56));
+    assert_eq!((size_of::<TableAnswer>(), offset_of!(TableAnswer, tally), offset_of!(TableAnswer, state)), (104, 48, 72));
 }
 
 fn no_memory() {
@@ -27,8 +29,8 @@ fn no_memory() {
         assert_eq!(sys::skut_restore(null(), 0, null_mut(), 0, null_mut(), 0).answer.number, 14);
         assert_eq!(sys::skut_check(state, null(), 0, null(), 0).number, 14);
         assert_eq!(sys::skut_decode(null(), 0, null_mut(), 0, null_mut(), 0).number, 1);
-        assert_eq!(sys::skut_encoded_len(null(), 0, null(), 0), Answer { number: 0, a: 13, b: 0, c: 0 });
-        assert_eq!(sys::skut_encode(null(), 0, null(), 0, null_mut(), 0), Answer { number: 21, a: 13, b: 0, c: 0 });
+        assert_eq!(sys::skut_encoded_len(null(), 0, null(), 0), Answer { a: 13, ..Answer::default() });
+        assert_eq!(sys::skut_encode(null(), 0, null(), 0, null_mut(), 0), Answer { number: 21, a: 13, ..Answer::default() });
         assert_eq!(sys::skut_read_bits(null(), 0, 0, 0, 1).number, 24);
     }
 }
@@ -63,8 +65,8 @@ fn neither() {
     for has_last in [2, 3, u32::MAX] {
         let (state, number) = (State { has_last, ..good }, 14);
         let (s, z) = (seqs.as_mut_ptr(), secs.as_mut_ptr());
-        let given_none = |a| TableAnswer { answer: Answer { number, a, b: 0, c: 0 }, tally: Tally::default(), state: none };
-        let refused = Answer { number, a: 0, b: 0, c: 0 };
+        let given_none = |a| TableAnswer { answer: Answer { number, a, ..Answer::default() }, tally: Tally::default(), state: none };
+        let refused = Answer { number, ..Answer::default() };
         unsafe {
             assert_eq!(sys::skut_check(state, s, 4, z, 4), refused);
             assert_eq!(sys::skut_offer(state, s, 4, z, 4, 9, 90), given_none(0));
@@ -87,7 +89,7 @@ fn uneven() {
     let (from_seqs, from_secs) = ([1u64, 2], [10i64, 20]);
     let good = unsafe { sys::skut_with_config(4, 0) }.state;
     let none = unsafe { sys::skut_with_config(8193, 0) }.state;
-    let refused = TableAnswer { answer: Answer { number: 18, a: 0, b: 0, c: 0 }, tally: Tally::default(), state: none };
+    let refused = TableAnswer { answer: Answer { number: 18, ..Answer::default() }, tally: Tally::default(), state: none };
     for (state, n, m) in [(good, 2, 1), (good, 1, 2), (good, 0, 1), (good, 1, 0), (none, 2, 1), (none, 0, 2)] {
         let (s, z) = (seqs.as_mut_ptr(), secs.as_mut_ptr());
         let told = unsafe { sys::skut_offer_pairs(state, s, 4, z, 4, from_seqs.as_ptr(), n, from_secs.as_ptr(), m) };

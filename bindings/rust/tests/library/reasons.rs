@@ -127,7 +127,7 @@ fn by_each_call(state: State, seq: u64, second: i64) -> [(TableAnswer, Arrays); 
 }
 
 fn untouched() {
-    let (answer, none) = (Answer { number: 0, a: 0, b: 0, c: 0 }, sys::Tally::default());
+    let (answer, none) = (Answer::default(), sys::Tally::default());
     let (went_back, too_soon) = (sys::Tally { went_back: 1, ..none }, sys::Tally { too_soon: 1, ..none });
     for (second, tally) in [(99, went_back), (95, went_back), (100, too_soon), (109, too_soon)] {
         // A sequence that drops, and one that does not.

@@ -6,7 +6,8 @@ use crate::run::Case;
 use skutlaneb::sys::{self, State, TableAnswer};
 use std::mem::size_of;
 
-pub const CASES: &[Case] = &[("no call needs more stack than the header says", stack)];
+pub const CASES: &[Case] =
+    &[("no call needs more stack than the header says", stack), ("nor does one that is refused where bytes, bits or a list of offers stop", refused)];
 
 const HEADER: &str = include_str!("../../../c/skutlaneb.h");
 const PAIRS: usize = 8192;
@@ -89,8 +90,8 @@ fn laid_out(args: &[Arg]) -> ([u64; 5], Vec<u64>) {
     (registers, pushed)
 }
 
-/// The bytes of stack that a call writes to.
-fn stack_of(&(name, function, ref args): &Call) -> usize {
+/// The number that a call answers, and the bytes of stack that it writes to.
+fn stack_of(&(_, function, ref args): &Call) -> (u32, usize) {
     const STACK: usize = 256 * 1024;
     let (registers, pushed) = laid_out(args);
     let mut painted = vec![0xA5A5_A5A5_A5A5_A5A5u64; STACK / 8];
@@ -117,10 +118,8 @@ fn stack_of(&(name, function, ref args): &Call) -> usize {
             clobber_abi("C"),
         );
     }
-    // A refused call may have done less than the others.
-    assert_eq!(answer[0] as u32, 0, "{name} is refused");
     let untouched = painted.iter().flat_map(|word| word.to_le_bytes()).take_while(|&byte| byte == 0xA5).count();
-    8 * (at + pushed.len()) - untouched
+    (answer[0] as u32, 8 * (at + pushed.len()) - untouched)
 }
 
 /// The bytes of stack that the header says a call needs.
@@ -135,9 +134,40 @@ fn stack() {
     for index in 0..number {
         let mut lent = full();
         let call = &calls(&mut lent)[index];
-        let (used, most) = (stack_of(call), declared(call.0));
+        let ((answered, used), most) = (stack_of(call), declared(call.0));
         println!("   {}: {used} of {most} bytes of stack", call.0);
+        // A refused call may have done less than the others.
+        assert_eq!(answered, 0, "{} is refused", call.0);
         assert!(used <= most && most <= 256 * 1024);
     }
     assert_eq!(HEADER.matches("Stack: ").count(), number);
+}
+
+fn refused() {
+    // Nine pairs of zeros up to the seconds' codes: the header, the sequences with a byte of codes, and the seconds' count and first value.
+    let start = [&[1, 9, 0, 0, 0][..], &[0, 0, 0, 9, 0, 0, 0, 0, 0, 0, 0, 0, 0], &[0, 0, 0, 9, 0, 0, 0, 0, 0, 0, 0, 0]].concat();
+    let with = |codes: &[u8]| [&start, codes].concat();
+    let inputs = [(4, start[..20].to_vec()), (5, start[..25].to_vec()), (6, start.clone()), (7, with(&[1])), (8, with(&[15, 0]))];
+    let (mut lent, n) = (full(), PAIRS as u64);
+    let (s, z) = (lent.seqs.as_mut_ptr() as u64, lent.secs.as_mut_ptr() as u64);
+    let words = |words: &[u64]| words.iter().map(|&word| Word(word)).collect::<Vec<_>>();
+    let mut calls: Vec<(u32, Call)> = Vec::new();
+    for (number, bytes) in &inputs {
+        let (b, k) = (bytes.as_ptr() as u64, bytes.len() as u64);
+        calls.push((*number, ("skut_decode", sys::skut_decode as *const (), words(&[b, k, s, n, z, n]))));
+        calls.push((*number, ("skut_image_len", sys::skut_image_len as *const (), words(&[b, k]))));
+        calls.push((*number, ("skut_restore", sys::skut_restore as *const (), words(&[b, k, s, n, z, n]))));
+        calls.push((24, ("skut_read_bits", sys::skut_read_bits as *const (), words(&[b, k, k - 1, 3, 64]))));
+    }
+    let (low_seq, late_sec, other) = (3u64, 9000i64, State { count: 1, capacity: 1, has_last: 1, interval_secs: 0, last: 9000 });
+    let one = [&low_seq as *const u64 as u64, 1, &late_sec as *const i64 as u64, 1];
+    let table = || std::iter::once(Table(lent.state)).chain(words(&[s, n, z, n]));
+    calls.push((17, ("skut_offer_pairs", sys::skut_offer_pairs as *const (), table().chain(words(&one)).collect())));
+    calls.push((17, ("skut_extend_from", sys::skut_extend_from as *const (), table().chain([Table(other)]).chain(words(&one)).collect())));
+    for (number, call) in &calls {
+        let ((answered, used), most) = (stack_of(call), declared(call.0));
+        println!("   {}, refused {number}: {used} of {most} bytes of stack", call.0);
+        assert_eq!(answered, *number, "{}", call.0);
+        assert!(used <= most);
+    }
 }
