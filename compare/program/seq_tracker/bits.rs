@@ -1,16 +1,16 @@
 //! Bits: reads, writes and sign extension.
 use super::chance::Chance;
 use super::lent;
-use super::ours::{self, Answer};
+use super::ours::{self, Answer, OK};
 use super::tally::Tally;
 use crate::utils::{sign_extend, BitReader, BitWriter};
 
 fn given(a: u64, b: u64, c: u64) -> Answer {
-    Answer { number: 0, a, b, c }
+    Answer { a, b, c, ..OK }
 }
 
 fn refused(number: u32, a: u64) -> Answer {
-    Answer { number, a, b: 0, c: 0 }
+    Answer { number, a, ..OK }
 }
 
 fn extension(tally: &mut Tally, val: u32, bits: u8) {
@@ -24,16 +24,27 @@ fn extension(tally: &mut Tally, val: u32, bits: u8) {
     }
 }
 
-/// A read of `width` bits with `before` bits before it.
-fn read(tally: &mut Tally, s: &[u8], before: usize, width: u8) {
-    let input = || format!("bytes {s:?}, {width} bits from bit {before} on");
+/// The Rust's reader, with `before` bits read.
+fn reader(s: &[u8], before: usize) -> BitReader<'_> {
     let mut reader = BitReader::new(s);
     for _ in 0..before {
         reader.read_bit();
     }
-    let theirs = match reader.read64(width) {
+    reader
+}
+
+/// How many bits the Rust still reads, one by one, with `before` bits read.
+fn left(s: &[u8], before: usize) -> u64 {
+    let mut reader = reader(s, before);
+    std::iter::from_fn(|| reader.read_bit()).count() as u64
+}
+
+/// A read of `width` bits with `before` bits before it.
+fn read(tally: &mut Tally, s: &[u8], before: usize, width: u8) {
+    let input = || format!("bytes {s:?}, {width} bits from bit {before} on");
+    let theirs = match reader(s, before).read64(width) {
         Some(v) => given(v, (before + width as usize) as u64 / 8, (before + width as usize) as u64 % 8),
-        None => refused(24, 0),
+        None => refused(24, left(s, before)),
     };
     let kind = if theirs.number == 0 { "reads of bits" } else { "reads of bits refused, 24" };
     tally.same(kind, input, &theirs, &ours::read_bits(s, before / 8, (before % 8) as u8, width));
@@ -108,7 +119,7 @@ fn reads(tally: &mut Tally, chance: &mut Chance) {
     }
 }
 
-/// Places that are the end, and widths above 64.
+/// Places that are the end, where 0 bits are left, and widths above 64.
 fn ends(tally: &mut Tally, chance: &mut Chance) {
     let n = chance.below(5) as usize;
     let s = chance.bytes(n);

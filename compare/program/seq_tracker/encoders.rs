@@ -1,32 +1,24 @@
 //! Encoders: the bytes that are written, the length, and strictness.
 use super::chance::Chance;
 use super::lent;
-use super::ours::{self, Answer};
+use super::ours::{self, Answer, OK};
 use super::tally::Tally;
 use super::theirs;
 
 fn written(n: usize) -> Answer {
-    Answer { number: 0, a: n as u64, b: 0, c: 0 }
+    Answer { a: n as u64, ..OK }
 }
 
 fn too_short(n: usize) -> Answer {
-    Answer { number: 21, a: n as u64, b: 0, c: 0 }
+    Answer { number: 21, a: n as u64, ..OK }
 }
 
 /// The first array that the Rust does not read back, and the length of its shortest part that is not read back, less one.
 fn not_read_back(seqs: &[u64], secs: &[i64]) -> Option<(u64, u64)> {
     let arrays = [seqs.iter().map(|&x| x as i64).collect::<Vec<i64>>(), secs.to_vec()];
     let (which, values) = arrays.iter().enumerate().find(|(_, values)| !theirs::reads_back(values))?;
-    let (mut good, mut bad) = (0, values.len());
-    while bad - good > 1 {
-        let middle = (good + bad) / 2;
-        if theirs::reads_back(&values[..middle]) {
-            good = middle
-        } else {
-            bad = middle
-        }
-    }
-    Some((which as u64, bad as u64 - 1))
+    let index = theirs::last_that(0, values.len(), |n| theirs::reads_back(&values[..n]));
+    Some((which as u64, index as u64))
 }
 
 /// One encoder, into a buffer of `room` bytes.
@@ -37,7 +29,7 @@ fn encode(tally: &mut Tally, chance: &mut Chance, strict: bool, seqs: &[u64], se
     let ours = ours::encode(strict, seqs, secs, &mut out);
     let wide = if strict { not_read_back(seqs, secs) } else { None };
     let (kind, theirs) = match (wide, room < image.len()) {
-        (Some((array, index)), _) => ("strict encoders refused, 20", Answer { number: 20, a: array, b: index, c: 0 }),
+        (Some((array, index)), _) => ("strict encoders refused, 20", Answer { number: 20, a: array, b: index, ..OK }),
         (None, true) => ("encoders refused, 21", too_short(image.len())),
         (None, false) => (if strict { "images written strictly" } else { "images written" }, written(image.len())),
     };

@@ -3,8 +3,8 @@
 use super::super::*;
 use super::chance::{Chance, FIRST_SECOND, LAST_SECOND};
 use super::lent;
-use super::offers::{comparable, empty, second, sequence, shown, table_of, OK};
-use super::ours::{Answer, Table, TableAnswer, NO_OFFERS};
+use super::offers::{comparable, empty, second, sequence, shown, table_of};
+use super::ours::{Answer, Table, TableAnswer, NO_OFFERS, OK};
 use super::readers::unfit;
 use super::refusals::{no_table, told};
 use super::tally::Tally;
@@ -39,7 +39,7 @@ fn offered(t: &mut SequenceTracker, held: &mut Held, seqs: &[u64], secs: &[i64])
             Offer::Recorded => held.recorded(t, stood),
             Offer::Skipped(_) => {}
             Offer::Refused => {
-                answer = Answer { number: 17, a: i as u64, b: 0, c: 0 };
+                answer = Answer { number: 17, a: i as u64, ..OK };
                 break;
             }
         }

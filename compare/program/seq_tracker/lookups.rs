@@ -3,7 +3,7 @@
 use super::super::*;
 use super::chance::{Chance, FIRST_SECOND, LAST_SECOND};
 use super::offers::{shown, table_of};
-use super::ours::{Answer, Table};
+use super::ours::{Answer, Table, OK};
 use super::tally::Tally;
 use super::theirs;
 use std::fmt::Debug;
@@ -12,8 +12,8 @@ const ROUNDS: [(FindOption, u32); 2] = [(FindOption::RoundUp, 0), (FindOption::R
 
 fn found(partner: Option<u64>) -> Answer {
     match partner {
-        Some(x) => Answer { number: 0, a: 1, b: x, c: 0 },
-        None => Answer { number: 0, a: 0, b: 0, c: 0 },
+        Some(x) => Answer { a: 1, b: x, ..OK },
+        None => OK,
     }
 }
 

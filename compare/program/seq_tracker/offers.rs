@@ -3,11 +3,9 @@
 use super::super::*;
 use super::chance::{Chance, FIRST_SECOND, LAST_SECOND};
 use super::lent::{self, holding};
-use super::ours::{self, Answer, State, Table, TableAnswer, NO_OFFERS, NO_STATE};
+use super::ours::{self, Answer, State, Table, TableAnswer, NO_OFFERS, NO_STATE, OK};
 use super::tally::Tally;
 use super::theirs::{self, Offer, Reason};
-
-pub const OK: Answer = Answer { number: 0, a: 0, b: 0, c: 0 };
 
 /// Our table of the Rust's pairs, in arrays with some places to spare.
 pub fn table_of(chance: &mut Chance, t: &SequenceTracker) -> Table {

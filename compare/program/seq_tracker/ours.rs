@@ -8,6 +8,9 @@ mod linked;
 /// What the library calls a tally has another name here, where a `Tally` counts comparisons.
 pub use linked::{Answer, State, TableAnswer, Tally as Counts};
 
+/// Number 0, and nothing more. What tells less than an answer can is 0 in the rest of it.
+pub const OK: Answer = Answer { number: 0, a: 0, b: 0, c: 0, byte: 0, bit: 0 };
+
 /// What is returned where no offer was made.
 pub const NO_OFFERS: Counts = Counts { recorded: 0, went_back: 0, too_soon: 0 };
 

@@ -2,7 +2,7 @@
 use super::super::*;
 use super::chance::{Chance, FIRST_SECOND, LAST_SECOND};
 use super::lent::{self, holding, Lent};
-use super::ours::{self, Answer, State, Table, TableAnswer, NO_OFFERS, NO_STATE};
+use super::ours::{self, Answer, State, Table, TableAnswer, NO_OFFERS, NO_STATE, OK};
 use super::tally::Tally;
 use super::theirs;
 use crate::utils::BitReader;
@@ -12,14 +12,8 @@ const REFUSED: [&str; 10] = [
     "images refused, 6", "images refused, 7", "images refused, 8", "images refused, 9",
 ];
 
-/// What of a refusal the Rust tells too: all of 1, 2 and 3, the width of 8, the array of 9.
-fn comparable(ours: Answer) -> (u32, u64) {
-    match ours.number {
-        2 | 9 => (ours.number, ours.a),
-        8 => (8, ours.c),
-        n => (n, 0),
-    }
-}
+/// What the Rust makes of an image: its table, or its refusal in full.
+type Theirs = Result<SequenceTracker, Answer>;
 
 /// The array whose count is above the room, where that is met before another refusal.
 fn above_room(bytes: &[u8], room: usize) -> Option<u64> {
@@ -36,11 +30,11 @@ fn above_room(bytes: &[u8], room: usize) -> Option<u64> {
 }
 
 fn refused(number: u32, a: u64) -> Answer {
-    Answer { number, a, b: 0, c: 0 }
+    Answer { number, a, ..OK }
 }
 
 /// The list reader into two arrays, of which the shorter has `room` places.
-fn decode(tally: &mut Tally, chance: &mut Chance, bytes: &[u8], room: usize) {
+fn decode(tally: &mut Tally, chance: &mut Chance, bytes: &[u8], theirs: &Theirs, room: usize) {
     let longer = chance.below(3) as usize;
     let (more, other) = if chance.below(2) == 0 { (longer, 0) } else { (0, longer) };
     let (mut seqs, mut secs) = (lent::seqs(chance, &[], room + more), lent::secs(chance, &[], room + other));
@@ -53,27 +47,27 @@ fn decode(tally: &mut Tally, chance: &mut Chance, bytes: &[u8], room: usize) {
         tally.kept("images refused, 10", input, &before, &after);
         return;
     }
-    match SequenceTracker::from_bytes(bytes) {
+    match theirs {
         Ok(t) => {
-            tally.same("images read", input, &Answer { number: 0, a: t.timestamps.len() as u64, b: 0, c: 0 }, &ours);
+            tally.same("images read", input, &Answer { a: t.timestamps.len() as u64, ..OK }, &ours);
             let values = (holding(&before.0, &t.sequence_numbers), holding(&before.1, &t.timestamps));
             tally.holds("images read", input, &values, &after);
         }
-        Err(words) => {
-            let theirs = theirs::refusal(&words);
-            tally.same(REFUSED[theirs.0 as usize], input, &theirs, &comparable(ours));
-            tally.kept(REFUSED[theirs.0 as usize], input, &before, &after);
+        Err(refusal) => {
+            let kind = REFUSED[refusal.number as usize];
+            tally.same(kind, input, refusal, &ours);
+            tally.kept(kind, input, &before, &after);
         }
     }
 }
 
 /// The image's length: no array is lent, so every refusal is one of the Rust's.
-fn image_len(tally: &mut Tally, bytes: &[u8]) {
+fn image_len(tally: &mut Tally, bytes: &[u8], theirs: &Theirs) {
     let input = || format!("bytes {bytes:02x?}");
     let ours = ours::image_len(bytes);
-    match SequenceTracker::from_bytes(bytes) {
+    match theirs {
         Ok(_) => tally.same("lengths of images read", input, &refused(0, theirs::image_len(bytes) as u64), &ours),
-        Err(words) => tally.same("lengths of images refused, 1 to 9", input, &theirs::refusal(&words), &comparable(ours)),
+        Err(refusal) => tally.same("lengths of images refused, 1 to 9", input, refusal, &ours),
     }
 }
 
@@ -95,26 +89,26 @@ impl Lending {
         tally.kept(kind, || format!("bytes {bytes:02x?}"), &self.held, &(self.seqs.all(), self.secs.all()));
     }
 
-    pub fn restore(&mut self, tally: &mut Tally, bytes: &[u8]) {
+    pub fn restore(&mut self, tally: &mut Tally, bytes: &[u8], theirs: &Theirs) {
         let input = || format!("bytes {bytes:02x?}");
         let ours = Table::restore(bytes, &mut self.seqs, &mut self.secs);
-        let no_table = |number, a| TableAnswer { answer: refused(number, a), tally: NO_OFFERS, state: NO_STATE };
+        let no_table = |answer| TableAnswer { answer, tally: NO_OFFERS, state: NO_STATE };
         if let Some(array) = above_room(bytes, 8192) {
-            tally.ruled("tables not restored, 10", input, &no_table(10, array), &ours);
+            tally.ruled("tables not restored, 10", input, &no_table(refused(10, array)), &ours);
             return self.kept(tally, "tables not restored, 10", bytes);
         }
-        match SequenceTracker::from_bytes(bytes) {
-            Err(words) => {
-                tally.same("tables not restored, 1 to 9", input, &theirs::refusal(&words), &comparable(ours.answer));
+        match theirs {
+            Err(refusal) => {
+                tally.same("tables not restored, 1 to 9", input, &no_table(*refusal), &ours);
                 self.kept(tally, "tables not restored, 1 to 9", bytes);
             }
             Ok(t) => match unfit(&t.sequence_numbers, &t.timestamps) {
                 Some((number, index)) => {
-                    tally.ruled("tables not restored, 11 to 13", input, &no_table(number, index), &ours);
+                    tally.ruled("tables not restored, 11 to 13", input, &no_table(refused(number, index)), &ours);
                     self.kept(tally, "tables not restored, 11 to 13", bytes);
                 }
                 None => {
-                    let state = State { capacity: 8192, interval_secs: 60, ..theirs::state(&t) };
+                    let state = State { capacity: 8192, interval_secs: 60, ..theirs::state(t) };
                     let theirs = TableAnswer { answer: refused(0, 0), tally: NO_OFFERS, state };
                     tally.same("tables restored", input, &theirs, &ours);
                     self.held = (holding(&self.held.0, &t.sequence_numbers), holding(&self.held.1, &t.timestamps));
@@ -135,12 +129,13 @@ pub fn unfit(seqs: &[u64], secs: &[i64]) -> Option<(u32, u64)> {
 }
 
 fn all(tally: &mut Tally, chance: &mut Chance, lending: &mut Lending, bytes: &[u8]) {
-    image_len(tally, bytes);
-    let count = SequenceTracker::from_bytes(bytes).map_or(20, |t| t.timestamps.len());
+    let theirs = theirs::read(bytes);
+    image_len(tally, bytes, &theirs);
+    let count = theirs.as_ref().map_or(20, |t| t.timestamps.len());
     let more = 1 + chance.index(4);
     let room = chance.of(&[count, count + more, count / 2, 600]);
-    decode(tally, chance, bytes, room);
-    lending.restore(tally, bytes);
+    decode(tally, chance, bytes, &theirs, room);
+    lending.restore(tally, bytes, &theirs);
 }
 
 /// An image with two bytes in the place of the codes of an array of n values.
@@ -158,13 +153,14 @@ pub fn exhaustive(tally: &mut Tally) {
     for x in 0..=255 {
         all(tally, chance, &mut lending, &[x]);
         all(tally, chance, &mut lending, &[1, x]);
-        (0..=255).for_each(|y| image_len(tally, &[x, y]));
+        (0..=255).for_each(|y| image_len(tally, &[x, y], &theirs::read(&[x, y])));
     }
     for x in 0..=65535u16 {
         for n in [2, 3] {
             let image = coded(n, x.to_be_bytes());
-            image_len(tally, &image);
-            decode(tally, chance, &image, 3);
+            let theirs = theirs::read(&image);
+            image_len(tally, &image, &theirs);
+            decode(tally, chance, &image, &theirs, 3);
         }
     }
     let image = theirs::table(8192, 60, &[100, 164, 170, 5000, 5001], &[0, 60, 120, 4000, 1 << 33]).to_bytes();

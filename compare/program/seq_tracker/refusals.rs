@@ -2,13 +2,13 @@
 use super::chance::{Chance, FIRST_SECOND, LAST_SECOND};
 use super::lent;
 use super::offers::shown;
-use super::ours::{self, Answer, Table, TableAnswer, NO_OFFERS, NO_STATE};
+use super::ours::{self, Answer, Table, TableAnswer, NO_OFFERS, NO_STATE, OK};
 use super::readers::unfit;
 use super::tally::Tally;
 use super::theirs::{self, Offer};
 
 pub fn told(number: u32, a: u64, b: u64) -> Answer {
-    Answer { number, a, b, c: 0 }
+    Answer { number, a, b, ..OK }
 }
 
 pub fn no_table(answer: Answer) -> TableAnswer {

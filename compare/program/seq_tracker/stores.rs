@@ -3,7 +3,7 @@ use super::super::*;
 use super::chance::Chance;
 use super::lent;
 use super::offers::{shown, table_of};
-use super::ours::{Answer, Table};
+use super::ours::{Answer, Table, OK};
 use super::readers::Lending;
 use super::tally::Tally;
 use super::theirs;
@@ -21,11 +21,11 @@ fn save(tally: &mut Tally, chance: &mut Chance, t: &SequenceTracker, ours: &Tabl
         tally.same("strict saves refused, 20", input, &theirs, &(answer.number, answer.a));
         tally.kept("strict saves refused, 20", input, &before, &out.all());
     } else if room < image.len() {
-        tally.same("saves refused, 21", input, &Answer { number: 21, a: image.len() as u64, b: 0, c: 0 }, &answer);
+        tally.same("saves refused, 21", input, &Answer { number: 21, a: image.len() as u64, ..OK }, &answer);
         tally.kept("saves refused, 21", input, &before, &out.all());
     } else {
         let kind = if strict { "tables saved strictly" } else { "tables saved" };
-        tally.same(kind, input, &Answer { number: 0, a: image.len() as u64, b: 0, c: 0 }, &answer);
+        tally.same(kind, input, &Answer { a: image.len() as u64, ..OK }, &answer);
         tally.holds(kind, input, &lent::holding(&before, image), &out.all());
     }
     tally.holds("saves", input, &lent_before, &(ours.seqs.all(), ours.secs.all()));
@@ -44,6 +44,6 @@ pub fn random(tally: &mut Tally, chance: &mut Chance) {
             save(tally, chance, &t, &ours, strict, &image, image.len() + spare);
             save(tally, chance, &t, &ours, strict, &image, image.len() - 1);
         }
-        lending.restore(tally, &image);
+        lending.restore(tally, &image, &theirs::read(&image));
     }
 }

@@ -1,6 +1,7 @@
 //! The Rust's side: its answers in the numbers of the list of refusals (docs/RULES.md), and what it does not tell, why an offer was skipped.
 use super::super::*;
-use super::ours::{Counts, State};
+use super::ours::{Answer, Counts, State, OK};
+use super::stops;
 use std::panic::{catch_unwind, AssertUnwindSafe};
 
 pub fn instant(sec: i64) -> DateTime<Utc> {
@@ -100,25 +101,34 @@ pub fn extend_from(t: &mut SequenceTracker, other: &SequenceTracker) -> bool {
     catch_unwind(AssertUnwindSafe(|| t.extend_from(other))).is_ok()
 }
 
-/// A reader's refusal: its number, and the byte of 2, the width of 8, the array of 9 (else 0).
-pub fn refusal(words: &str) -> (u32, u64) {
+/// The table that an image is read as, or the refusal in full.
+pub fn read(bytes: &[u8]) -> Result<SequenceTracker, Answer> {
+    SequenceTracker::from_bytes(bytes).map_err(|words| match refusal(&words) {
+        said if (4..=8).contains(&said.number) => stops::located(bytes, &words, said),
+        said => said,
+    })
+}
+
+/// A reader's refusal as its words tell it: its number, the byte of 2, the width of 8, the array of 9.
+fn refusal(words: &str) -> Answer {
+    let refused = |number| Answer { number, ..OK };
     let number = |before: &str, after: &str| -> Option<u64> { words.strip_prefix(before)?.strip_suffix(after)?.parse().ok() };
     match words {
-        "Empty buffer" => (1, 0),
-        "Buffer too small for length" => (3, 0),
-        "Expected count first" => (4, 0),
-        "Unexpected EOF: first value should be 64 bit" => (5, 0),
-        "Unexpected EOF reading prefix" => (6, 0),
-        "Unexpected EOF decoding Gorilla prefix" => (7, 0),
+        "Empty buffer" => refused(1),
+        "Buffer too small for length" => refused(3),
+        "Expected count first" => refused(4),
+        "Unexpected EOF: first value should be 64 bit" => refused(5),
+        "Unexpected EOF reading prefix" => refused(6),
+        "Unexpected EOF decoding Gorilla prefix" => refused(7),
         _ => {
             if let Some(byte) = number("Unsupported version: ", "") {
-                (2, byte)
+                Answer { a: byte, ..refused(2) }
             } else if let Some(width) = number("Unexpected EOF reading ", "-bit delta-of-delta") {
-                (8, width)
+                Answer { c: width, ..refused(8) }
             } else if words.contains("sequence numbers, got") {
-                (9, 0)
+                refused(9)
             } else if words.contains("timestamps, got") {
-                (9, 1)
+                Answer { a: 1, ..refused(9) }
             } else {
                 panic!("the Rust says something that the list of refusals does not have: {words}")
             }
@@ -131,6 +141,19 @@ pub fn image_len(bytes: &[u8]) -> usize {
     let (seqs, _) = decode_sequence_numbers_with_length(&bytes[5..]).expect("a good image");
     let (secs, _) = decode_gorilla_i64_with_length(&bytes[5 + seqs..]).expect("a good image");
     5 + seqs + secs
+}
+
+/// The last number that something holds of, of those from one that it holds of to one that it does not hold of.
+pub fn last_that(mut holds: usize, mut fails: usize, what: impl Fn(usize) -> bool) -> usize {
+    while fails - holds > 1 {
+        let middle = holds + (fails - holds) / 2;
+        if what(middle) {
+            holds = middle
+        } else {
+            fails = middle
+        }
+    }
+    holds
 }
 
 /// Whether the Rust reads one array back as it was.
