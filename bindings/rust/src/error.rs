@@ -182,18 +182,18 @@ impl Error {
 impl fmt::Display for Error {
     fn fmt(&self, f: &mut fmt::Formatter<'_>) -> fmt::Result {
         if let Some(at) = self.place() {
-            write!(f, "the image stops at {at}, where ")?;
+            write!(f, "the image stops at {at}, ")?;
         }
         match self {
             Error::Empty => f.write_str("there are no bytes to read a table from"),
             Error::Version { byte } => write!(f, "the bytes start with version {byte}, and only version 1 is known"),
             Error::HeaderCut => f.write_str("the bytes end within the header, which has 5 bytes"),
-            Error::CountCut { array, .. } => write!(f, "the count of the {array} begins: its 32 bits are not all there"),
-            Error::FirstCut { array, .. } => write!(f, "the first of the {array} begins: its 64 bits are not all there"),
-            Error::CodeMissing { array, index, .. } => write!(f, "the code of value {index} of the {array} would begin: no bit of it is there"),
-            Error::PrefixCut { array, index, .. } => write!(f, "the code of value {index} of the {array} begins: its prefix is not all there"),
+            Error::CountCut { array, .. } => write!(f, "within the count of the {array}, which begins there: its 32 bits are not all there"),
+            Error::FirstCut { array, .. } => write!(f, "within the first of the {array}, which begins there: its 64 bits are not all there"),
+            Error::CodeMissing { array, index, .. } => write!(f, "before the code of value {index} of the {array}: no bit of it is there"),
+            Error::PrefixCut { array, index, .. } => write!(f, "within the code of value {index} of the {array}, which begins there: its prefix is not all there"),
             Error::DifferenceCut { array, index, width, .. } => {
-                write!(f, "the code of value {index} of the {array} begins: the {width} bits after its prefix are not all there")
+                write!(f, "within the code of value {index} of the {array}, which begins there: the {width} bits after its prefix are not all there")
             }
             Error::CountDiffers { array } => write!(f, "the {array} are not as many as the header says"),
             Error::TooManyPairs { array } => write!(f, "the {array} are more than there is room for"),

@@ -40,7 +40,7 @@ fn scan_values(s: &[u8], at: Place, count: usize, array: Array) -> ArrayScan
         BitsRead::Short(left) => {
             ArrayScan::Refused(Refusal::FirstCut(array, place_left(s.len(), left)))
         }
-        // not of 64 bits
+        // never met: 64 bits are not too many
         BitsRead::Width => ArrayScan::Refused(Refusal::FirstCut(array, at)),
     }
 }
@@ -64,7 +64,7 @@ pub fn scan_array(s: &[u8], from: usize, max: usize, array: Array) -> ArrayScan
         BitsRead::Short(left) => {
             ArrayScan::Refused(Refusal::CountCut(array, place_left(s.len(), left)))
         }
-        // not of 32 bits
+        // never met: 32 bits are not too many
         BitsRead::Width => ArrayScan::Refused(Refusal::CountCut(array, at)),
     }
 }

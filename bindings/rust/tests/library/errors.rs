@@ -71,19 +71,19 @@ fn where_it_stops() {
     let (array, at) = (Array::Sequences, Place { byte: 17, bit: 0 });
     let seconds = Place { byte: 1_000_000, bit: 7 };
     let said = [
-        (Error::CountCut { array, at }, "the image stops at byte 17, bit 0, where the count of the sequences begins: its 32 bits are not all there"),
-        (Error::FirstCut { array, at }, "the image stops at byte 17, bit 0, where the first of the sequences begins: its 64 bits are not all there"),
+        (Error::CountCut { array, at }, "the image stops at byte 17, bit 0, within the count of the sequences, which begins there: its 32 bits are not all there"),
+        (Error::FirstCut { array, at }, "the image stops at byte 17, bit 0, within the first of the sequences, which begins there: its 64 bits are not all there"),
         (
             Error::CodeMissing { array, index: 1, at },
-            "the image stops at byte 17, bit 0, where the code of value 1 of the sequences would begin: no bit of it is there",
+            "the image stops at byte 17, bit 0, before the code of value 1 of the sequences: no bit of it is there",
         ),
         (
             Error::PrefixCut { array: Array::Seconds, index: 8, at: seconds },
-            "the image stops at byte 1000000, bit 7, where the code of value 8 of the seconds begins: its prefix is not all there",
+            "the image stops at byte 1000000, bit 7, within the code of value 8 of the seconds, which begins there: its prefix is not all there",
         ),
         (
             Error::DifferenceCut { array, index: 1, width: 7, at },
-            "the image stops at byte 17, bit 0, where the code of value 1 of the sequences begins: the 7 bits after its prefix are not all there",
+            "the image stops at byte 17, bit 0, within the code of value 1 of the sequences, which begins there: the 7 bits after its prefix are not all there",
         ),
         (Error::BitsShort { left: 0 }, "no bit is left, and more were asked for"),
         (Error::BitsShort { left: 1 }, "only 1 bit is left, and more were asked for"),
