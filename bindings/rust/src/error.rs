@@ -188,8 +188,8 @@ impl fmt::Display for Error {
             Error::Empty => f.write_str("there are no bytes to read a table from"),
             Error::Version { byte } => write!(f, "the bytes start with version {byte}, and only version 1 is known"),
             Error::HeaderCut => f.write_str("the bytes end within the header, which has 5 bytes"),
-            Error::CountCut { array, .. } => write!(f, "within the count of the {array}, which begins there: its 32 bits are not all there"),
-            Error::FirstCut { array, .. } => write!(f, "within the first of the {array}, which begins there: its 64 bits are not all there"),
+            Error::CountCut { array, .. } => write!(f, "at the count of the {array}, which begins there: its 32 bits are not all there"),
+            Error::FirstCut { array, .. } => write!(f, "at the first of the {array}, which begins there: its 64 bits are not all there"),
             Error::CodeMissing { array, index, .. } => write!(f, "before the code of value {index} of the {array}: no bit of it is there"),
             Error::PrefixCut { array, index, .. } => write!(f, "within the code of value {index} of the {array}, which begins there: its prefix is not all there"),
             Error::DifferenceCut { array, index, width, .. } => {

@@ -16,7 +16,7 @@ pub enum CodeRead {
     Refused(Refusal),
 }
 
-// The code of an index, which a window of `len` bytes starts with.
+// The code of an index, which a window into `len` bytes starts with.
 pub fn read_code(w: Window, array: Array, index: usize, len: usize) -> CodeRead
     requires { ⌜ w .have ≤ len * 8 ⌝ }
     ensures { λ r. ⌜ ReadsCode w (arrayNo array) index len r ⌝ }
@@ -25,8 +25,8 @@ pub fn read_code(w: Window, array: Array, index: usize, len: usize) -> CodeRead
         Prefix::Ones(n) => {
             let width = gorilla::inner::width_of(n);
             let prefix = used_of(n);
-            let left = w.have - prefix;
-            if left < width {
+            let rest = w.have - prefix;
+            if rest < width {
                 // the code begins with its prefix
                 let at = place_left(len, w.have);
                 return CodeRead::Refused(Refusal::DiffCut(array, index, width, at));

@@ -14,7 +14,7 @@ pub enum Prefix {
     Refused(Refusal),
 }
 
-// The prefix of the code of an index, which a window of `len` bytes starts with. Where it is cut off, all that is left is in the window.
+// The prefix of the code of an index, which a window into `len` bytes starts with. Where it is cut off, all that is left is in the window.
 pub fn leading(w: Window, array: Array, index: usize, len: usize) -> Prefix
     requires { ⌜ w .have ≤ len * 8 ⌝ }
     ensures { λ r. ⌜ ReadsPrefix w (arrayNo array) index len r ⌝ }

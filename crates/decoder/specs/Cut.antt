@@ -8,8 +8,11 @@ use Rattle.told.specs.Told.{gave, refused}
 use Rattle.gorilla.specs.Stops.{CutOff}
 use Rattle.decoder.specs.Decode.{decodeRule, imageLenRule}
 
--- an input whose image has n bytes, cut after k of them: `image_len` is refused as `CutOff` says and, where `decode` accepts the whole, so is `decode`
-abbrev pub CallsTellWhere : Type 0
-CallsTellWhere = (bytes seqs : List ℕ) (secs : List ℤ) (n k : ℕ) → imageLenRule bytes ≡ gave n → k < n
-    → CutOff (take k bytes) (λ l. imageLenRule (take k bytes) ≡ refused l)
-    × ((count : ℕ) → decodeRule bytes seqs secs ≡ gave count → CutOff (take k bytes) (λ l. decodeRule (take k bytes) seqs secs ≡ refused l))
+-- `image_len` of an input whose image has n bytes, cut after k of them
+abbrev pub LenTellsWhere : Type 0
+LenTellsWhere = (bytes : List ℕ) (n k : ℕ) → imageLenRule bytes ≡ gave n → k < n → CutOff (take k bytes) (λ l. imageLenRule (take k bytes) ≡ refused l)
+
+-- `decode` of an input that it accepts: its image has n bytes, and it is cut after k of them
+abbrev pub DecodeTellsWhere : Type 0
+DecodeTellsWhere = (bytes seqs : List ℕ) (secs : List ℤ) (count : ℕ) → decodeRule bytes seqs secs ≡ gave count
+    → (n : ℕ) × (imageLenRule bytes ≡ gave n) × ((k : ℕ) → k < n → CutOff (take k bytes) (λ l. decodeRule (take k bytes) seqs secs ≡ refused l))

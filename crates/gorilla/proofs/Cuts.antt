@@ -1,6 +1,6 @@
 -- An image that is cut off is refused. Assumes nothing.
 use Prim.Native.Nat.{ℕ, zero, suc, _+_, _-_, _*_, _/_, _%_, _≤_, _<_}
-use mathlib.Core.Path.{_≡_, refl, sym, ap, ap₂, _∙_, subst}
+use mathlib.Core.Path.{_≡_, refl, sym, ap, _∙_}
 use mathlib.Core.Bool.{Bool, true, false}
 use mathlib.Core.List.{List, [], _∷_, _++_, map}
 use native.Mathlib.Omega.{arith}
@@ -13,9 +13,9 @@ use Rattle.bit_lists.specs.BitList.{bitsOf, natFrom}
 use Rattle.bit_lists.proofs.Lists.{length-bitsOf, bitsOf-append}
 use Rattle.bits.specs.Place.{placeOf}
 use Rattle.gorilla.specs.Rows.{widths}
-use Rattle.gorilla.specs.Parser.{read, refused, Reader, andThen, _>>=_, give, require, takeBits, item, toldAt, align}
+use Rattle.gorilla.specs.Parser.{read, refused, Reader, andThen, _>>=_, give, require, takeBits, with, item, toldAt, align}
 use Rattle.gorilla.specs.Reading.{cutNumber, countOnes, readCode, readCodes, readValues, readArray, leCount, readPart, Pairs, readArrays, readPairs, readImage}
-use Rattle.gorilla.specs.Stops.{CutOff, CutRefused}
+use Rattle.gorilla.specs.Stops.{TellsPlace, CutRefused}
 use Rattle.gorilla.proofs.Taking.{enough, few, were-enough}
 use Rattle.gorilla.proofs.Readers.{refused-not-read, item-was, item-read}
 use Rattle.gorilla.proofs.Counts.{both}
@@ -52,13 +52,13 @@ module _ (P : List ℕ → Type 0) where
           let w = were-enough l k (bs ++ more) h in
           kept (drop k bs) (enough l k bs o ∙ ap (λ (v : ℕ). read v (drop k bs)) (ap (natFrom 0) (sym (take-append-le k bs more o)) ∙ sym (w .1))) (w .2 ∙ drop-append-le k bs more o)
 
-  ones-cut : ((k : ℕ) (l : List ℕ) → P (cutNumber k ∷ l)) → (a i k c : ℕ) (bs more left : List ℕ) (x : ℕ) → countOnes a i k c (bs ++ more) ≡ read x left
+  ones-cuts : ((k : ℕ) (l : List ℕ) → P (cutNumber k ∷ l)) → (a i k c : ℕ) (bs more left : List ℕ) (x : ℕ) → countOnes a i k c (bs ++ more) ≡ read x left
       → Cut P (countOnes a i k c) bs more x left
   unfolding countOnes
-  ones-cut q a i zero c bs more left x h = let e : c ≡ x = cc in let f : bs ++ more ≡ left = cc in kept bs (ap (λ (u : ℕ). read u bs) e) (sym f)
-  ones-cut q a i (suc k) c [] more left x h = lost (cutNumber c ∷ a ∷ i ∷ []) refl (q c (a ∷ i ∷ []))
-  ones-cut q a i (suc k) c (zero ∷ bs) more left x h = let e : c ≡ x = cc in let f : bs ++ more ≡ left = cc in kept bs (ap (λ (u : ℕ). read u bs) e) (sym f)
-  ones-cut q a i (suc k) c (suc b ∷ bs) more left x h = again (ones-cut q a i k (c + 1) bs more left x h)
+  ones-cuts q a i zero c bs more left x h = let e : c ≡ x = cc in let f : bs ++ more ≡ left = cc in kept bs (ap (λ (u : ℕ). read u bs) e) (sym f)
+  ones-cuts q a i (suc k) c [] more left x h = lost (cutNumber c ∷ a ∷ i ∷ []) refl (q c (a ∷ i ∷ []))
+  ones-cuts q a i (suc k) c (zero ∷ bs) more left x h = let e : c ≡ x = cc in let f : bs ++ more ≡ left = cc in kept bs (ap (λ (u : ℕ). read u bs) e) (sym f)
+  ones-cuts q a i (suc k) c (suc b ∷ bs) more left x h = again (ones-cuts q a i k (c + 1) bs more left x h)
     where
       again : Cut P (countOnes a i k (c + 1)) bs more x left → Cut P (countOnes a i (suc k) c) (suc b ∷ bs) more x left
       again (kept r e f) = kept r e f
@@ -86,7 +86,7 @@ module _ (P : List ℕ → Type 0) where
     where
       go : (n′ : ℕ) (bs more left : List ℕ) (x : A) → Cut P (m n′) bs more x left → Cut P (item n′ (m n′)) bs more x left
       go n′ bs more left x (kept r e g) = kept r (item-read n′ (m n′) bs e) g
-      go n′ bs more left x (lost l e g) = lost (l ++ (placeOf (n′ - length bs) .byte ∷ placeOf (n′ - length bs) .bit ∷ [])) (ap (toldAt (n′ - length bs)) e) (q l _ g)
+      go n′ bs more left x (lost l e g) = lost (with l (placeOf (n′ - length bs))) (ap (toldAt (n′ - length bs)) e) (q l _ g)
 
   align-cuts : Cuts P (λ n. align)
   align-cuts = record {
@@ -99,45 +99,42 @@ module _ (P : List ℕ → Type 0) where
   }
 
 -- ---- the arrays: refused by 4 to 8
-abbrev Later : List ℕ → Type 0
-Later l = (4 ≤ getD l 0 0) × (getD l 0 0 ≤ 8)
+place-told : (l k : List ℕ) → TellsPlace l → TellsPlace (l ++ k)
+place-told [] k h = absurd (omega (arith, h .0))
+place-told (x ∷ l) k h = h
 
-later-told : (l k : List ℕ) → Later l → Later (l ++ k)
-later-told [] k h = absurd (omega (arith, h .0))
-later-told (x ∷ l) k h = h
-
-cut-number : (k : ℕ) (l : List ℕ) → Later (cutNumber k ∷ l)
+cut-number : (k : ℕ) (l : List ℕ) → TellsPlace (cutNumber k ∷ l)
 unfolding cutNumber
 cut-number zero l = (omega arith, omega arith)
 cut-number (suc k) l = (omega arith, omega arith)
 
-code-cuts : (a i : ℕ) → Cuts Later (λ n. readCode n a i)
+code-cuts : (a i : ℕ) → Cuts TellsPlace (λ n. readCode n a i)
 unfolding readCode
 code-cuts a i =
-    item-cuts Later later-told
-    (then-cuts Later (record { cuts = λ n n′ bs more left x w h. ones-cut Later cut-number a i 4 0 bs more left x h }) (λ k.
-    then-cuts Later (bits-cuts Later (getD widths k 0) (8 ∷ a ∷ i ∷ getD widths k 0 ∷ []) (omega arith, omega arith)) (λ v. give-cuts Later _)))
+    item-cuts TellsPlace place-told
+    (then-cuts TellsPlace (record { cuts = λ n n′ bs more left x w h. ones-cuts TellsPlace cut-number a i 4 0 bs more left x h }) (λ k.
+    then-cuts TellsPlace (bits-cuts TellsPlace (getD widths k 0) (8 ∷ a ∷ i ∷ getD widths k 0 ∷ []) (omega arith, omega arith)) (λ v. give-cuts TellsPlace _)))
 
-codes-cut : (a k i : ℕ) → Cuts Later (λ n. readCodes n a k i)
+codes-cuts : (a k i : ℕ) → Cuts TellsPlace (λ n. readCodes n a k i)
 unfolding readCodes
-codes-cut a zero i = give-cuts Later []
-codes-cut a (suc k) i = then-cuts Later (code-cuts a i) (λ d. then-cuts Later (codes-cut a k (i + 1)) (λ ds. give-cuts Later (d ∷ ds)))
+codes-cuts a zero i = give-cuts TellsPlace []
+codes-cuts a (suc k) i = then-cuts TellsPlace (code-cuts a i) (λ d. then-cuts TellsPlace (codes-cuts a k (i + 1)) (λ ds. give-cuts TellsPlace (d ∷ ds)))
 
-values-cut : (a c : ℕ) → Cuts Later (λ n. readValues n a c)
+values-cuts : (a c : ℕ) → Cuts TellsPlace (λ n. readValues n a c)
 unfolding readValues
-values-cut a zero = give-cuts Later []
-values-cut a (suc k) =
-    then-cuts Later (item-cuts Later later-told (bits-cuts Later 64 (5 ∷ a ∷ []) (omega arith, omega arith))) (λ v. then-cuts Later (codes-cut a k 1) (λ ds. give-cuts Later _))
+values-cuts a zero = give-cuts TellsPlace []
+values-cuts a (suc k) =
+    then-cuts TellsPlace (item-cuts TellsPlace place-told (bits-cuts TellsPlace 64 (5 ∷ a ∷ []) (omega arith, omega arith))) (λ v. then-cuts TellsPlace (codes-cuts a k 1) (λ ds. give-cuts TellsPlace _))
 
-part-cuts : (a : ℕ) (room : ℕ → Bool) (c : ℕ) → Cuts Later (λ n. readPart n a room c)
+part-cuts : (a : ℕ) (room : ℕ → Bool) (c : ℕ) → Cuts TellsPlace (λ n. readPart n a room c)
 unfolding readPart readArray
 part-cuts a room c =
-    then-cuts Later
-    (then-cuts Later (item-cuts Later later-told (bits-cuts Later 32 (4 ∷ a ∷ []) (omega arith, omega arith))) (λ k. then-cuts Later (require-cuts Later (room k) _) (λ u. values-cut a k))) (λ xs.
-    then-cuts Later (require-cuts Later (eqb (length xs) c) _) (λ u. then-cuts Later (align-cuts Later) (λ v. give-cuts Later xs)))
+    then-cuts TellsPlace
+    (then-cuts TellsPlace (item-cuts TellsPlace place-told (bits-cuts TellsPlace 32 (4 ∷ a ∷ []) (omega arith, omega arith))) (λ k. then-cuts TellsPlace (require-cuts TellsPlace (room k) _) (λ u. values-cuts a k))) (λ xs.
+    then-cuts TellsPlace (require-cuts TellsPlace (eqb (length xs) c) _) (λ u. then-cuts TellsPlace (align-cuts TellsPlace) (λ v. give-cuts TellsPlace xs)))
 
-arrays-cut : (room : ℕ → Bool) (c : ℕ) → Cuts Later (λ n. readArrays n room c)
-arrays-cut room c = then-cuts Later (part-cuts 0 room c) (λ xs. then-cuts Later (part-cuts 1 room c) (λ ys. give-cuts Later _))
+arrays-cuts : (room : ℕ → Bool) (c : ℕ) → Cuts TellsPlace (λ n. readArrays n room c)
+arrays-cuts room c = then-cuts TellsPlace (part-cuts 0 room c) (λ xs. then-cuts TellsPlace (part-cuts 1 room c) (λ ys. give-cuts TellsPlace _))
 
 -- ---- the header
 -- a count that has its 32 bits is read
@@ -220,7 +217,7 @@ module _ (room : ℕ → Bool) (bytes left : List ℕ) (p : Pairs) (k : ℕ) (h 
 
   -- more
   abbrev In : Type 0
-  In = (l : List ℕ) × (readImage room cut ≡ refused l) × Later l
+  In = (l : List ℕ) × (readImage room cut ≡ refused l) × TellsPlace l
 
   arrays-read : readArrays (length bytes * 8) room (s .count) (s .after-header) ≡ read (record { seqs = map pattern (s .values); secs = p .secs }) left
   arrays-read = rw (s .seqs-read) (rw (s .secs-read))
@@ -232,13 +229,13 @@ module _ (room : ℕ → Bool) (bytes left : List ℕ) (p : Pairs) (k : ℕ) (h 
       go (v .0) (v .1) (v .3) (header v)
     where
       last : (mid r : List ℕ) → takeBits 8 (1 ∷ []) (bitsOf cut) ≡ read 1 mid → leCount (3 ∷ []) mid ≡ read (s .count) r
-          → Cut Later (readArrays (length cut * 8) room (s .count)) r more (record { seqs = map pattern (s .values); secs = p .secs }) left → In
+          → Cut TellsPlace (readArrays (length cut * 8) room (s .count)) r more (record { seqs = map pattern (s .values); secs = p .secs }) left → In
       last mid r e f (kept q g t) = absurd (omega (arith, o, length-more, ap length t, length-append q more))
       last mid r e f (lost k g t) = (k, rw e (rw f g), t)
 
       go : (mid : List ℕ) → takeBits 8 (1 ∷ []) (bitsOf cut) ≡ read 1 mid → length mid ≡ k * 8 - 8 → Header mid → In
       go mid e f (kept r g t) =
-          last mid r e g (arrays-cut room (s .count) .cuts (length bytes * 8) (length cut * 8) r more left _ (omega (arith, length-more))
+          last mid r e g (arrays-cuts room (s .count) .cuts (length bytes * 8) (length cut * 8) r more left _ (omega (arith, length-more))
           (ap (readArrays (length bytes * 8) room (s .count)) (sym t) ∙ arrays-read))
       go mid e f (lost k g t) = refused-not-read (sym g ∙ count-there (3 ∷ []) mid (omega (arith, length-cut)))
 
@@ -246,5 +243,5 @@ pub cut-refused : CutRefused
 cut-refused room bytes left p k h o = record {
   empty = no-byte room bytes left p k h o;
   header = in-header room bytes left p k h o;
-  arrays = λ l. let r = in-arrays room bytes left p k h o l in (r .0, r .1, stops-there room (take k bytes) (r .0) (r .1) (r .2 .0) (r .2 .1));
+  arrays = λ l. let r = in-arrays room bytes left p k h o l in (r .0, r .1, stops-there room (take k bytes) (r .0) (r .1) (r .2));
 }

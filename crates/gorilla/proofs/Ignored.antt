@@ -12,7 +12,7 @@ use lib.IntN.{ℤ}
 use Rattle.signed.specs.Signed.{pattern}
 use Rattle.bit_lists.specs.BitList.{bitsOf, natFrom}
 use Rattle.gorilla.specs.Rows.{widths}
-use Rattle.gorilla.specs.Parser.{Read, read, refused, Reader, andThen, _>>=_, give, require, takeBits, item, align}
+use Rattle.gorilla.specs.Parser.{Read, read, Reader, andThen, _>>=_, give, require, takeBits, item, align}
 use Rattle.gorilla.specs.Reading.{countOnes, readCode, readCodes, readValues, readArray, leCount, readPart, Pairs, readPairs}
 use Rattle.gorilla.specs.Ignored.{FollowingIgnored, Padded, PaddingIgnored}
 use Rattle.bit_lists.proofs.Lists.{length-bitsOf, bitsOf-append}

@@ -19,7 +19,7 @@ use Rattle.bits.proofs.Answers.{given, short, pos-le}
 use Rattle.bit_lists.specs.BitList.{bitsOf}
 use Rattle.bit_lists.proofs.Lists.{length-bitsOf}
 use Rattle.gorilla.specs.Inner.{shape}
-use Rattle.gorilla.specs.Parser.{Read, read, refused, Reader, takeBits, item, toldAt, andThen}
+use Rattle.gorilla.specs.Parser.{Read, read, refused, Reader, takeBits, with, item, toldAt, andThen}
 use Rattle.bits.specs.Inner.{bitsFrom}
 use Rattle.gorilla.specs.Reading.{cutNumber, countOnes, readCode, readCodes}
 use Rattle.gorilla.proofs.Taking.{one-bit}
@@ -58,9 +58,9 @@ pub item-read : {A : Type 0} (all : ℕ) (m : Reader A) (bs : List ℕ) {x : A} 
 item-read all m bs h = ap (toldAt (all - length bs)) h
 
 pub item-refused : {A : Type 0} (all : ℕ) (m : Reader A) (bs : List ℕ) {l : List ℕ} {left : ℕ} {r : Place} → m bs ≡ refused l → left ≡ length bs → At (all - left) r
-    → item all m bs ≡ refused (l ++ (r .byte ∷ r .bit ∷ []))
+    → item all m bs ≡ refused (with l r)
 item-refused {A} all m bs {l} h e f =
-    ap (toldAt (all - length bs)) h ∙ ap (λ (p : Place). refused (l ++ (p .byte ∷ p .bit ∷ []))) (place-by all bs e f)
+    ap (toldAt (all - length bs)) h ∙ ap (λ (p : Place). refused (with l p)) (place-by all bs e f)
 
 -- n bits as an item of s
 module _ (s : List ℕ) (at : Place) (n : ℕ) (l : List ℕ) where
@@ -72,7 +72,7 @@ module _ (s : List ℕ) (at : Place) (n : ℕ) (l : List ℕ) where
       (take-at l s n (posOf (length s) at) (g .within) ∙ ap₂ (λ (u p : ℕ). read u (drop p (bitsOf s))) (sym (g .value)) (sym (g .pos)))
 
   pub ended : {left : ℕ} {r : Place} → toldRead (rv.Short left) ≡ readRule s at n → At (length s * 8 - left) r
-      → item (length s * 8) (takeBits n l) (bitsFrom s at) ≡ refused (l ++ (r .byte ∷ r .bit ∷ []))
+      → item (length s * 8) (takeBits n l) (bitsFrom s at) ≡ refused (with l r)
   unfolding bitsFrom
   ended h e =
       let g = short s at n h in

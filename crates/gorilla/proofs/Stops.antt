@@ -15,9 +15,9 @@ use Rattle.bit_lists.proofs.Lists.{length-bitsOf}
 use Rattle.bit_lists.proofs.Packing.{AllBits, bits-of}
 use Rattle.bits.specs.Place.{placeOf}
 use Rattle.gorilla.specs.Rows.{widths, decoded}
-use Rattle.gorilla.specs.Parser.{Read, read, refused, Reader, andThen, _>>=_, give, require, takeBits, item, toldAt, align}
-use Rattle.gorilla.specs.Reading.{cutNumber, countOnes, readCode, readCodes, readValues, readArray, leCount, readPart, readPairs, readImage}
-use Rattle.gorilla.specs.Stops.{PlaceIn, bitsOn, prefixOf, Stop, StopsThere}
+use Rattle.gorilla.specs.Parser.{Read, read, refused, Reader, andThen, _>>=_, give, require, takeBits, with, item, toldAt, align}
+use Rattle.gorilla.specs.Reading.{cutNumber, countOnes, readCode, readCodes, readValues, readArray, leCount, readPart, readPairs}
+use Rattle.gorilla.specs.Stops.{TellsPlace, PlaceIn, bitsOn, prefixOf, Stop, StopsThere}
 use Rattle.gorilla.specs.Stops as stop
 use Rattle.gorilla.proofs.Readers.{refused-not-read}
 use Rattle.gorilla.proofs.Counts.{both}
@@ -43,13 +43,13 @@ record Ended (a i k n : ℕ) (bs l : List ℕ) : Type 0 where
   all : bs ≡ replicate ones 1
   told : l ≡ cutNumber (n + ones) ∷ a ∷ i ∷ []
 
-ended : (a i k n : ℕ) (bs l : List ℕ) → AllBits bs → countOnes a i k n bs ≡ refused l → Ended a i k n bs l
+ones-ended : (a i k n : ℕ) (bs l : List ℕ) → AllBits bs → countOnes a i k n bs ≡ refused l → Ended a i k n bs l
 unfolding countOnes AllBits
-ended a i zero n bs l b h = refused-not-read (sym h)
-ended a i (suc k) n [] l b h = record { ones = 0; few = omega arith; all = refl; told = let e : l ≡ cutNumber n ∷ a ∷ i ∷ [] = cc in e ∙ ap (λ (u : ℕ). cutNumber u ∷ a ∷ i ∷ []) (sym (add-zero n)) }
-ended a i (suc k) n (zero ∷ bs) l b h = refused-not-read (sym h)
-ended a i (suc k) n (suc c ∷ bs) l (b, bb) h =
-    let e = ended a i k (n + 1) bs l bb h in
+ones-ended a i zero n bs l b h = refused-not-read (sym h)
+ones-ended a i (suc k) n [] l b h = record { ones = 0; few = omega arith; all = refl; told = let e : l ≡ cutNumber n ∷ a ∷ i ∷ [] = cc in e ∙ ap (λ (u : ℕ). cutNumber u ∷ a ∷ i ∷ []) (sym (add-zero n)) }
+ones-ended a i (suc k) n (zero ∷ bs) l b h = refused-not-read (sym h)
+ones-ended a i (suc k) n (suc c ∷ bs) l (b, bb) h =
+    let e = ones-ended a i k (n + 1) bs l bb h in
     let s : n + 1 + e .ones ≡ n + suc (e .ones) = omega arith in
     record {
       ones = suc (e .ones);
@@ -104,10 +104,10 @@ module _ {bytes bs : List ℕ} (z : Last bytes bs) where
   before-is : length (z .before) ≡ p
   before-is = omega (arith, length-bitsOf bytes, ap length (z .parts), length-append (z .before) bs)
 
-  place-in : PlaceIn bytes (placeOf p .byte) (placeOf p .bit)
+  place-in : PlaceIn bytes (placeOf p)
   place-in = (omega arith, omega arith)
 
-  bits-on : bitsOn bytes (placeOf p .byte) (placeOf p .bit) ≡ bs
+  bits-on : bitsOn bytes (placeOf p) ≡ bs
   bits-on =
       let e : p / 8 * 8 + p % 8 ≡ p = omega arith in
       ap (λ (u : ℕ). drop u (bitsOf bytes)) e ∙ ap (drop p) (z .parts) ∙ drop-at (z .before) bs p before-is
@@ -117,11 +117,11 @@ module _ {bytes bs : List ℕ} (z : Last bytes bs) where
 
 -- of a refused item: what its reader refused with, and the place
 item-of : {A : Type 0} (all : ℕ) (m : Reader A) (bs : List ℕ) {l : List ℕ} → item all m bs ≡ refused l
-    → (k : List ℕ) × (m bs ≡ refused k) × (l ≡ k ++ (placeOf (all - length bs) .byte ∷ placeOf (all - length bs) .bit ∷ []))
+    → (k : List ℕ) × (m bs ≡ refused k) × (l ≡ with k (placeOf (all - length bs)))
 item-of {A} all m bs {l} h = go (m bs) h
   where
     go : (r : Read A) → toldAt (all - length bs) r ≡ refused l
-        → (k : List ℕ) × (r ≡ refused k) × (l ≡ k ++ (placeOf (all - length bs) .byte ∷ placeOf (all - length bs) .bit ∷ []))
+        → (k : List ℕ) × (r ≡ refused k) × (l ≡ with k (placeOf (all - length bs)))
     go (read x r) g = refused-not-read (sym g)
     go (refused k) g = (k, refl, cc)
 
@@ -150,23 +150,23 @@ module _ (bytes bs : List ℕ) (z : Last bytes bs) where
   count-stops a l h =
       let r = item-of all (takeBits 32 (4 ∷ a ∷ [])) bs h in
       let s = short-of 32 (4 ∷ a ∷ []) bs (r .1) in
-      stop.count a (placeOf (p z) .byte) (placeOf (p z) .bit) (r .2 ∙ ap (λ (k : List ℕ). k ++ (placeOf (p z) .byte ∷ placeOf (p z) .bit ∷ [])) (s .0)) (place-in z)
+      stop.count a (placeOf (p z)) (r .2 ∙ ap (λ (k : List ℕ). with k (placeOf (p z))) (s .0)) (place-in z)
       (subst (λ (u : List ℕ). length u < 32) (sym (bits-on z)) (s .1))
 
   first-stops : (a : ℕ) (l : List ℕ) → item all (takeBits 64 (5 ∷ a ∷ [])) bs ≡ refused l → Stop bytes l
   first-stops a l h =
       let r = item-of all (takeBits 64 (5 ∷ a ∷ [])) bs h in
       let s = short-of 64 (5 ∷ a ∷ []) bs (r .1) in
-      stop.first a (placeOf (p z) .byte) (placeOf (p z) .bit) (r .2 ∙ ap (λ (k : List ℕ). k ++ (placeOf (p z) .byte ∷ placeOf (p z) .bit ∷ [])) (s .0)) (place-in z)
+      stop.first a (placeOf (p z)) (r .2 ∙ ap (λ (k : List ℕ). with k (placeOf (p z))) (s .0)) (place-in z)
       (subst (λ (u : List ℕ). length u < 64) (sym (bits-on z)) (s .1))
 
   -- the end after so many ones
   ones-stop : (a i n : ℕ) {k l : List ℕ} → n < 4 → bs ≡ replicate n 1 → k ≡ cutNumber n ∷ a ∷ i ∷ []
-      → l ≡ k ++ (placeOf (p z) .byte ∷ placeOf (p z) .bit ∷ []) → Stop bytes l
+      → l ≡ with k (placeOf (p z)) → Stop bytes l
   unfolding cutNumber
-  ones-stop a i zero h e f g = stop.code a i (placeOf (p z) .byte) (placeOf (p z) .bit) (g ∙ ap (λ (k : List ℕ). k ++ (placeOf (p z) .byte ∷ placeOf (p z) .bit ∷ [])) f) (place-in z) (bits-on z ∙ e)
+  ones-stop a i zero h e f g = stop.code a i (placeOf (p z)) (g ∙ ap (λ (k : List ℕ). with k (placeOf (p z))) f) (place-in z) (bits-on z ∙ e)
   ones-stop a i (suc n) h e f g =
-      stop.prefix a i (placeOf (p z) .byte) (placeOf (p z) .bit) (suc n) (g ∙ ap (λ (k : List ℕ). k ++ (placeOf (p z) .byte ∷ placeOf (p z) .bit ∷ [])) f) (place-in z) (omega arith) (omega arith) (bits-on z ∙ e)
+      stop.prefix a i (suc n) (placeOf (p z)) (g ∙ ap (λ (k : List ℕ). with k (placeOf (p z))) f) (place-in z) (omega arith) (omega arith) (bits-on z ∙ e)
 
   code-stops : (a i : ℕ) (l : List ℕ) → readCode all a i bs ≡ refused l → Stop bytes l
   unfolding readCode
@@ -174,18 +174,18 @@ module _ (bytes bs : List ℕ) (z : Last bytes bs) where
       let r = item-of all (_>>=_ (countOnes a i 4 0) (diffOf a i)) bs h in
       go (r .0) (r .2) (either (countOnes a i 4 0 bs) (diffOf a i) (r .1))
     where
-      go-late : (n : ℕ) (rest k : List ℕ) → l ≡ k ++ (placeOf (p z) .byte ∷ placeOf (p z) .bit ∷ []) → n ≤ 4 → bs ≡ prefixOf n ++ rest
+      go-late : (n : ℕ) (rest k : List ℕ) → l ≡ with k (placeOf (p z)) → n ≤ 4 → bs ≡ prefixOf n ++ rest
           → Either (takeBits (getD widths n 0) (8 ∷ a ∷ i ∷ getD widths n 0 ∷ []) rest) (diffAs n) k → Stop bytes l
       go-late n rest k e m f (earlier g) =
           let w : ℕ = getD widths n 0 in
           let s = short-of w (8 ∷ a ∷ i ∷ w ∷ []) rest g in
-          stop.difference a i n (placeOf (p z) .byte) (placeOf (p z) .bit) rest (e ∙ ap (λ (u : List ℕ). u ++ (placeOf (p z) .byte ∷ placeOf (p z) .bit ∷ [])) (s .0)) (place-in z) m (bits-on z ∙ f)
+          stop.difference a i n (placeOf (p z)) rest (e ∙ ap (λ (u : List ℕ). with u (placeOf (p z))) (s .0)) (place-in z) m (bits-on z ∙ f)
           (subst (λ (u : List ℕ). length u < length (prefixOf n) + w) (sym (bits-on z ∙ f)) (omega (arith, s .1, length-append (prefixOf n) rest)))
       go-late n rest k e m f (later v q g h) = refused-not-read (sym h)
 
-      go : (k : List ℕ) → l ≡ k ++ (placeOf (p z) .byte ∷ placeOf (p z) .bit ∷ []) → Either (countOnes a i 4 0 bs) (diffOf a i) k → Stop bytes l
+      go : (k : List ℕ) → l ≡ with k (placeOf (p z)) → Either (countOnes a i 4 0 bs) (diffOf a i) k → Stop bytes l
       go k e (earlier f) =
-          let t = ended a i 4 0 bs k (all-bits z) f in
+          let t = ones-ended a i 4 0 bs k (all-bits z) f in
           ones-stop a i (t .ones) (t .few) (t .all) (t .told ∙ ap (λ (u : ℕ). cutNumber u ∷ a ∷ i ∷ []) (zero-add (t .ones))) e
       go k e (later n rest f g) =
           let t = counted a i 4 0 bs (all-bits z) f in
@@ -194,14 +194,10 @@ module _ (bytes bs : List ℕ) (z : Last bytes bs) where
           go-late n rest k e (subst (λ (u : ℕ). u ≤ 4) (sym c) (t .few)) (t .prefix ∙ ap (λ (u : ℕ). prefixOf u ++ rest) (sym c)) (either (takeBits w (8 ∷ a ∷ i ∷ w ∷ []) rest) (diffAs n) g)
 
 -- ---- all readers of an image
--- one of 4 to 8
-abbrev Told : List ℕ → Type 0
-Told l = (4 ≤ getD l 0 0) × (getD l 0 0 ≤ 8)
-
 -- of the last bits of the input a reader takes some off the front, or refuses, and where it does so with one of 4 to 8 the input stops there
 record Halts {A : Type 0} (bytes : List ℕ) (m : Reader A) : Type 0 where
   fronts : (bs left : List ℕ) (x : A) → Last bytes bs → m bs ≡ read x left → Last bytes left
-  halts : (bs l : List ℕ) → Last bytes bs → m bs ≡ refused l → Told l → Stop bytes l
+  halts : (bs l : List ℕ) → Last bytes bs → m bs ≡ refused l → TellsPlace l → Stop bytes l
 
 -- bits off the front leave last bits
 off : {bytes bs left : List ℕ} (used : List ℕ) → Last bytes bs → bs ≡ used ++ left → Last bytes left
@@ -217,23 +213,23 @@ module _ (bytes : List ℕ) where
     halts = λ bs l z h t. go bs l z t (either (m bs) f h);
   }
     where
-      go : (bs l : List ℕ) → Last bytes bs → Told l → Either (m bs) f l → Stop bytes l
+      go : (bs l : List ℕ) → Last bytes bs → TellsPlace l → Either (m bs) f l → Stop bytes l
       go bs l z t (earlier g) = M .halts bs l z g t
       go bs l z t (later x mid g h) = F x .halts mid l (M .fronts bs mid x z g) h t
 
-  require-halts : (b : Bool) (l : List ℕ) → (Told l → ⊥) → Halts bytes (require b l)
+  require-halts : (b : Bool) (l : List ℕ) → (TellsPlace l → ⊥) → Halts bytes (require b l)
   require-halts true l n = give-halts tt
-  require-halts false l n = record { fronts = λ bs left x z h. refused-not-read h; halts = λ bs k z h t. absurd (n (let e : l ≡ k = cc in subst Told (sym e) t)) }
+  require-halts false l n = record { fronts = λ bs left x z h. refused-not-read h; halts = λ bs k z h t. absurd (n (let e : l ≡ k = cc in subst TellsPlace (sym e) t)) }
 
   -- the front, as `Takes` has it
   taken : {A : Type 0} {m : ℕ → Reader A} {May : List ℕ → List ℕ → Type 0} → Takes May m → (n : ℕ) (bs left : List ℕ) (x : A) → Last bytes bs → m n bs ≡ read x left → Last bytes left
   taken T n bs left x z h = let t = T .takes n bs left x h in off (t .used) z (t .front)
 
   -- bits that no item has
-  plain-halts : (n : ℕ) (k : List ℕ) → (Told k → ⊥) → Halts bytes (takeBits n k)
+  plain-halts : (n : ℕ) (k : List ℕ) → (TellsPlace k → ⊥) → Halts bytes (takeBits n k)
   plain-halts n k other = record {
     fronts = taken (bits-takes Any any-grow n k) 0;
-    halts = λ bs l z h t. absurd (other (subst Told (short-of n k bs h .0) t));
+    halts = λ bs l z h t. absurd (other (subst TellsPlace (short-of n k bs h .0) t));
   }
 
   code-halts : (a i : ℕ) → Halts bytes (readCode (length bytes * 8) a i)
@@ -284,4 +280,4 @@ module _ (bytes : List ℕ) where
       then-halts (part-halts 1 room n) (λ ys. give-halts _)))))
 
 pub stops-there : StopsThere
-stops-there room bytes l h lo hi = pairs-halt bytes room .halts (bitsOf bytes) l (record { before = []; parts = refl }) h (lo, hi)
+stops-there room bytes l h t = pairs-halt bytes room .halts (bitsOf bytes) l (record { before = []; parts = refl }) h t

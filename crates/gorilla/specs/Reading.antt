@@ -1,5 +1,5 @@
 -- How an array and an image are read (docs/RULES.md, "One array", "The image"), with the refusals where they arise. Array 0 is the sequences, and array 1 the seconds;
--- `all` is the bits of the whole input, by which an item that is not there tells its place.
+-- `all` is the number of bits of the whole input, by which an item that is not all there tells its place.
 use Prim.Native.Nat.{ℕ, zero, suc, _+_, _*_}
 use mathlib.Core.Bool.{Bool}
 use mathlib.Core.List.{List, [], _∷_, map}

@@ -4,40 +4,45 @@ use mathlib.Core.Path.{_≡_}
 use mathlib.Core.Bool.{Bool}
 use mathlib.Core.List.{List, [], _∷_, _++_}
 use lib.ListN.{length, getD, take, drop, replicate}
+use Rattle.bits.specs.declared.Place.{Place}
 use Rattle.bit_lists.specs.BitList.{bitsOf}
 use Rattle.gorilla.specs.Rows.{widths}
-use Rattle.gorilla.specs.Parser.{read, refused}
+use Rattle.gorilla.specs.Parser.{read, refused, with}
 use Rattle.gorilla.specs.Reading.{Pairs, readImage}
 
+-- the refusals that tell a place: 4 to 8
+abbrev pub TellsPlace : List ℕ → Type 0
+TellsPlace l = (4 ≤ getD l 0 0) × (getD l 0 0 ≤ 8)
+
 -- the place lies within the input, or at its end
-abbrev pub PlaceIn : List ℕ → ℕ → ℕ → Type 0
-PlaceIn bytes byte bit = (bit < 8) × (byte * 8 + bit ≤ length bytes * 8)
+abbrev pub PlaceIn : List ℕ → Place → Type 0
+PlaceIn bytes at = (at .bit < 8) × (at .byte * 8 + at .bit ≤ length bytes * 8)
 
 -- the bits of the input from the place on
-abbrev pub bitsOn : List ℕ → ℕ → ℕ → List ℕ
-bitsOn bytes byte bit = drop (byte * 8 + bit) (bitsOf bytes)
+abbrev pub bitsOn : List ℕ → Place → List ℕ
+bitsOn bytes at = drop (at .byte * 8 + at .bit) (bitsOf bytes)
 
 -- the prefix of n ones: a zero after them, or four ones
 abbrev pub prefixOf : ℕ → List ℕ
 prefixOf n = take 4 (replicate n 1 ++ (0 ∷ []))
 
--- what an input that is refused with l, one of 4 to 8, has from the place on which l tells
+-- what an input that is refused with l, one of 4 to 8, has from the place on that l tells
 pub data Stop (bytes l : List ℕ) : Type 0 where
   -- too few bits for a count
-  count : (a byte bit : ℕ) → l ≡ 4 ∷ a ∷ byte ∷ bit ∷ [] → PlaceIn bytes byte bit → length (bitsOn bytes byte bit) < 32 → Stop bytes l
+  count : (a : ℕ) (at : Place) → l ≡ with (4 ∷ a ∷ []) at → PlaceIn bytes at → length (bitsOn bytes at) < 32 → Stop bytes l
   -- too few for a first value
-  first : (a byte bit : ℕ) → l ≡ 5 ∷ a ∷ byte ∷ bit ∷ [] → PlaceIn bytes byte bit → length (bitsOn bytes byte bit) < 64 → Stop bytes l
+  first : (a : ℕ) (at : Place) → l ≡ with (5 ∷ a ∷ []) at → PlaceIn bytes at → length (bitsOn bytes at) < 64 → Stop bytes l
   -- none
-  code : (a i byte bit : ℕ) → l ≡ 6 ∷ a ∷ i ∷ byte ∷ bit ∷ [] → PlaceIn bytes byte bit → bitsOn bytes byte bit ≡ [] → Stop bytes l
+  code : (a i : ℕ) (at : Place) → l ≡ with (6 ∷ a ∷ i ∷ []) at → PlaceIn bytes at → bitsOn bytes at ≡ [] → Stop bytes l
   -- one to three ones
-  prefix : (a i byte bit k : ℕ) → l ≡ 7 ∷ a ∷ i ∷ byte ∷ bit ∷ [] → PlaceIn bytes byte bit → 1 ≤ k → k ≤ 3 → bitsOn bytes byte bit ≡ replicate k 1 → Stop bytes l
+  prefix : (a i k : ℕ) (at : Place) → l ≡ with (7 ∷ a ∷ i ∷ []) at → PlaceIn bytes at → 1 ≤ k → k ≤ 3 → bitsOn bytes at ≡ replicate k 1 → Stop bytes l
   -- a prefix, and with it fewer bits than it and its width have together
-  difference : (a i n byte bit : ℕ) (rest : List ℕ) → l ≡ 8 ∷ a ∷ i ∷ getD widths n 0 ∷ byte ∷ bit ∷ [] → PlaceIn bytes byte bit → n ≤ 4
-      → bitsOn bytes byte bit ≡ prefixOf n ++ rest → length (bitsOn bytes byte bit) < length (prefixOf n) + getD widths n 0 → Stop bytes l
+  difference : (a i n : ℕ) (at : Place) (rest : List ℕ) → l ≡ with (8 ∷ a ∷ i ∷ getD widths n 0 ∷ []) at → PlaceIn bytes at → n ≤ 4
+      → bitsOn bytes at ≡ prefixOf n ++ rest → length (bitsOn bytes at) < length (prefixOf n) + getD widths n 0 → Stop bytes l
 
 -- so of any input, whoever wrote it
 abbrev pub StopsThere : Type 0
-StopsThere = (room : ℕ → Bool) (bytes l : List ℕ) → readImage room bytes ≡ refused l → 4 ≤ getD l 0 0 → getD l 0 0 ≤ 8 → Stop bytes l
+StopsThere = (room : ℕ → Bool) (bytes l : List ℕ) → readImage room bytes ≡ refused l → TellsPlace l → Stop bytes l
 
 -- an input that ends before its image does: with no byte it is refused by 1, with one to four by 3, and with more by one of 4 to 8, with the place where it stops
 pub record CutOff (bytes : List ℕ) (Refused : List ℕ → Type 0) : Type 0 where

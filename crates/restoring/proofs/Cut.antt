@@ -1,8 +1,8 @@
 -- What `restore` answers of an image that is cut off. Assumes nothing.
-use Prim.Native.Nat.{ℕ}
+use Prim.Native.Nat.{ℕ, _-_, _/_, _<_}
 use mathlib.Core.Path.{_≡_, refl, sym, ap}
 use mathlib.Core.Bool.{Bool, true, false, cond, _||_}
-use mathlib.Core.List.{List, [], _∷_}
+use mathlib.Core.List.{[], _∷_}
 use lib.Dec.{leb, ltb}
 use lib.ListN.{length, take}
 use Rattle.told.specs.Told.{gave, refused}
@@ -11,18 +11,22 @@ use Rattle.gorilla.specs.Parser.{Read, read}
 use Rattle.gorilla.specs.Parser as parser
 use Rattle.gorilla.specs.Reading.{Pairs}
 use Rattle.gorilla.specs.Stops.{CutOff}
-use Rattle.decoder.proofs.Cut.{cut-as, cut-before}
+use Rattle.gorilla.proofs.Cuts.{cut-refused}
+use Rattle.decoder.specs.Decode.{imageLenRule}
+use Rattle.decoder.proofs.Cut.{cut-as, told-len}
 use Rattle.restoring.specs.Restore.{readTable, judged}
 use Rattle.restoring.specs.Cut.{RestoreTellsWhere}
 
 pub restore-tells-where : RestoreTellsWhere
-restore-tells-where bytes seqs secs t n k h e o = go (ltb (length seqs) 8192 || ltb (length secs) 8192) h
+restore-tells-where bytes seqs secs t h = go (ltb (length seqs) 8192 || ltb (length secs) 8192) h
   where
-    read-then : (r : Read Pairs) → readTable bytes ≡ r → judged r ≡ gave t → CutOff (take k bytes) (λ l. judged (readTable (take k bytes)) ≡ refused l)
-    read-then (read p left) f g = cut-as (take k bytes) (λ l r. ap judged r) (cut-before (λ m. leb m 8192) bytes left p n k f e o)
+    read-then : (r : Read Pairs) → readTable bytes ≡ r → judged r ≡ gave t
+        → (n : ℕ) × (imageLenRule bytes ≡ gave n) × ((k : ℕ) → k < n → CutOff (take k bytes) (λ l. judged (readTable (take k bytes)) ≡ refused l))
+    read-then (read p left) f g =
+        (length bytes - length left / 8, told-len (λ m. leb m 8192) bytes left p f, λ k o. cut-as (take k bytes) (λ l r. ap judged r) (cut-refused (λ m. leb m 8192) bytes left p k f o))
     read-then (parser.refused l) f g = given-not-refused (sym g)
 
     go : (b : Bool) → cond b (refused (14 ∷ [])) (judged (readTable bytes)) ≡ gave t
-        → CutOff (take k bytes) (λ l. cond b (refused (14 ∷ [])) (judged (readTable (take k bytes))) ≡ refused l)
+        → (n : ℕ) × (imageLenRule bytes ≡ gave n) × ((k : ℕ) → k < n → CutOff (take k bytes) (λ l. cond b (refused (14 ∷ [])) (judged (readTable (take k bytes))) ≡ refused l))
     go true g = given-not-refused (sym g)
     go false g = read-then (readTable bytes) refl g

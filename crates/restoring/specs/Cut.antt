@@ -12,5 +12,5 @@ use Rattle.restoring.specs.Restore.{restoreOf}
 
 -- its image has n bytes, and it is cut after k of them
 abbrev pub RestoreTellsWhere : Type 0
-RestoreTellsWhere = (bytes seqs : List ℕ) (secs : List ℤ) (t : SequenceTracker) (n k : ℕ) → restoreOf bytes seqs secs ≡ gave t → imageLenRule bytes ≡ gave n → k < n
-    → CutOff (take k bytes) (λ l. restoreOf (take k bytes) seqs secs ≡ refused l)
+RestoreTellsWhere = (bytes seqs : List ℕ) (secs : List ℤ) (t : SequenceTracker) → restoreOf bytes seqs secs ≡ gave t
+    → (n : ℕ) × (imageLenRule bytes ≡ gave n) × ((k : ℕ) → k < n → CutOff (take k bytes) (λ l. restoreOf (take k bytes) seqs secs ≡ refused l))

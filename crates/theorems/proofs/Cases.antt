@@ -50,6 +50,6 @@ cases = record {
   runOnly = (refl, refl, refl, refl);
   code-place = (refl, refl);
   cut-off = (refl, refl, refl, refl, refl, refl, refl);
-  bits-left = (refl, refl, refl, refl);
+  bits-left = (refl, refl, refl, refl, refl);
   order = (refl, refl);
 }

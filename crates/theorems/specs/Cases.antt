@@ -214,10 +214,11 @@ pub record Cases : Type 0 where
       × DecodeTells 3 (take 30 (fifth 0x00 0x00)) (refused (5 ∷ 1 ∷ 23 ∷ 0 ∷ []))
       × DecodeTells 3 (take 31 (fifth 0x00 0x00)) (refused (6 ∷ 1 ∷ 1 ∷ 31 ∷ 0 ∷ []))
       × DecodeTells 3 (take 32 (fifth 0x00 0x00)) (refused (8 ∷ 1 ∷ 1 ∷ 7 ∷ 31 ∷ 0 ∷ []))
-  -- of one byte, 6 bits from bit 3 on: 24, with 5 left; from byte 1 on, or from bit 8, with 0 left; 65 bits are refused first
+  -- of one byte, 6 bits from bit 3 on: 24, with 5 left; one bit from its end, from a place past it, or from bit 8, with 0 left; 65 bits are refused first
   pub bits-left :
       (readRule (0xFF ∷ []) (record { byte = 0; bit = 3 }) 6 ≡ refused (24 ∷ 5 ∷ []))
       × (readRule (0xFF ∷ []) (record { byte = 1; bit = 0 }) 1 ≡ refused (24 ∷ 0 ∷ []))
+      × (readRule (0xFF ∷ []) (record { byte = 2; bit = 3 }) 1 ≡ refused (24 ∷ 0 ∷ []))
       × (readRule (0xFF ∷ []) (record { byte = 0; bit = 8 }) 1 ≡ refused (24 ∷ 0 ∷ []))
       × (readRule (0xFF ∷ []) (record { byte = 0; bit = 3 }) 65 ≡ refused (23 ∷ []))
   -- per array 4, 10, 5: a count of 2 for two arrays of one place, with no first value after it, gives 10; with two places, 5, at byte 9

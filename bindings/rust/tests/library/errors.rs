@@ -71,8 +71,8 @@ fn where_it_stops() {
     let (array, at) = (Array::Sequences, Place { byte: 17, bit: 0 });
     let seconds = Place { byte: 1_000_000, bit: 7 };
     let said = [
-        (Error::CountCut { array, at }, "the image stops at byte 17, bit 0, within the count of the sequences, which begins there: its 32 bits are not all there"),
-        (Error::FirstCut { array, at }, "the image stops at byte 17, bit 0, within the first of the sequences, which begins there: its 64 bits are not all there"),
+        (Error::CountCut { array, at }, "the image stops at byte 17, bit 0, at the count of the sequences, which begins there: its 32 bits are not all there"),
+        (Error::FirstCut { array, at }, "the image stops at byte 17, bit 0, at the first of the sequences, which begins there: its 64 bits are not all there"),
         (
             Error::CodeMissing { array, index: 1, at },
             "the image stops at byte 17, bit 0, before the code of value 1 of the sequences: no bit of it is there",

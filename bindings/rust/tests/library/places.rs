@@ -165,29 +165,35 @@ fn cut() {
             assert_eq!(error, Error::HeaderCut);
             continue;
         }
-        let item = items.iter().find(|item| item.start + item.length > 8 * k).unwrap();
-        let at = Place { byte: item.start / 8, bit: (item.start % 8) as u8 };
-        let left = 8 * k - item.start;
-        assert_eq!(error, (item.refused)(left, at), "cut after {k} bytes");
-
-        // From the place on there are as few bits as the number says. In the whole image the item stands there, and with its bits the input goes on past it.
-        assert!(at <= Place { byte: k, bit: 0 } && error.place() == Some(at));
-        assert_eq!(value_at(&whole, item.start, error.number()), item.value);
-        let end = (item.start + item.length).div_ceil(8);
-        assert!(end == whole.len() || read(&whole[..end]).place() > Some(at));
+        // By what is told alone: the place is at or before the end, and from it on there are as few bits as the number says.
+        let at = error.place().expect("a place");
+        let start = 8 * at.byte + at.bit as usize;
+        let left = (8 * k).checked_sub(start).expect("a place at or before the end");
+        let ones = |n: usize| bits_at(bytes, start, n) == (1 << n) - 1;
         let array = match error {
             Error::CountCut { array, .. } if left < 32 => array,
             Error::FirstCut { array, .. } if left < 64 => array,
             Error::CodeMissing { array, .. } if left == 0 => array,
-            Error::PrefixCut { array, .. } if (1..=3).contains(&left) && bits_at(bytes, item.start, left) == (1 << left) - 1 => array,
-            Error::DifferenceCut { array, width, .. } if left < item.length && width as usize == bits_of(item.value).1 => {
-                widths.insert(width);
-                array
-            }
+            Error::PrefixCut { array, .. } if (1..=3).contains(&left) && ones(left) => array,
+            Error::DifferenceCut { array, width: 7, .. } if (2..9).contains(&left) && ones(1) => array,
+            Error::DifferenceCut { array, width: 9, .. } if (3..12).contains(&left) && ones(2) => array,
+            Error::DifferenceCut { array, width: 12, .. } if (4..16).contains(&left) && ones(3) => array,
+            Error::DifferenceCut { array, width: 32, .. } if (4..36).contains(&left) && ones(4) => array,
             _ => panic!("{error}, and {left} bits are left"),
         };
         numbers.insert((error.number(), array));
         bits.insert((error.number(), at.bit));
+        if let Error::DifferenceCut { width, .. } = error {
+            widths.insert(width);
+        }
+
+        // By the pairs: it is the first item that is not all there. In the whole image the item stands there, and with its bits the input goes on past it.
+        let item = items.iter().find(|item| item.start + item.length > 8 * k).unwrap();
+        let begins = Place { byte: item.start / 8, bit: (item.start % 8) as u8 };
+        assert_eq!(error, (item.refused)(8 * k - item.start, begins), "cut after {k} bytes");
+        assert_eq!(value_at(&whole, item.start, error.number()), item.value);
+        let end = (item.start + item.length).div_ceil(8);
+        assert!(end == whole.len() || read(&whole[..end]).place() > Some(at));
     }
     // The cuts tried what they were to try.
     let each = |number| [(number, Array::Sequences), (number, Array::Seconds)];

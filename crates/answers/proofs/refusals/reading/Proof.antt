@@ -1,9 +1,6 @@
 use borrow.Author.Needs.{needs}
 use Rattle.answers.proofs.refusals.reading.Statement.{statement}
 use Rattle.answers.proofs.refusals.reading.Tie as tie
-use Rattle.answers.proofs.refusals.answer.Reads as answer-reads
-use Rattle.answers.proofs.refusals.answer_at.Reads as answer-at-reads
-use Rattle.answers.proofs.refusals.array_no.Reads as array-no-reads
 
 enum-told : tie.Need-enum-told
 enum-told c = search needs

@@ -93,9 +93,9 @@ width-of-requires c κs = few (c .before) (c .before .before .before .leading .e
 used-of-requires : tie.Need-used-of-requires
 used-of-requires c κs = few (c .before .before) (c .before .before .before .before .leading .ensures .0) .0
 
-sub-left : tie.Need-sub-left
+sub-rest : tie.Need-sub-rest
 unfolding Sizes
-sub-left c = omega (arith, sizes (c .before))
+sub-rest c = omega (arith, sizes (c .before))
 
 place-left-requires : tie.Need-place-left-requires
 place-left-requires c κs = search needs
@@ -176,7 +176,7 @@ read-code-spec =
     enum-known-n
     width-of-requires
     used-of-requires
-    sub-left
+    sub-rest
     place-left-requires
     returns
     add-bits
