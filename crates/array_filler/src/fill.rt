@@ -56,13 +56,13 @@ fn step(s: &[u8], c: Cursor, array: Array, index: usize) -> Cursor
             track: follow(t, 0),
         };
     }
-    match read_code(w, array, index, s.len()) {
+    match read_code(w) {
         CodeRead::Diff(d, n) => Cursor {
             zeros: 0,
             at: bits::inner::after(at, n),
             track: follow(t, d),
         },
-        CodeRead::Refused(_) => Cursor {
+        CodeRead::Cut(_, _) => Cursor {
             zeros: 0,
             at: at,
             track: t,

@@ -17,15 +17,14 @@ use Rattle.bits.specs.declared.Place.{Place}
 use Rattle.bits.proofs.Answers.{pos-place}
 use Rattle.bit_lists.specs.BitList.{bitsOf}
 use Rattle.gorilla.specs.Inner.{shape}
-use Rattle.gorilla.specs.Parser.{read, refused}
+use Rattle.gorilla.specs.Parser.{read, refused, with}
 use Rattle.bits.specs.Inner.{bitsFrom}
 use Rattle.gorilla.specs.Reading.{countOnes, readCode, readCodes}
 use Rattle.bit_lists.proofs.Lists.{bit-is, length-bitsOf}
 use Rattle.gorilla.proofs.Taking.{no-bits}
 use Rattle.gorilla.proofs.Readers.{shape-next}
-use Rattle.code_reader.specs.Refusal.{told}
-use Rattle.code_reader.specs.declared.Refusal.{Refusal}
-use Rattle.code_reader.specs.Inner.{Holds, Zeros, ReadsCode}
+use Rattle.code_reader.specs.declared.missing.Missing.{Missing}
+use Rattle.code_reader.specs.Inner.{Holds, Zeros, missed, ReadsCode}
 use Rattle.code_reader.specs.declared.window.Window.{Window}
 use Rattle.code_reader.specs.declared.code.CodeRead.the-variants as c
 
@@ -96,10 +95,10 @@ module _ (s : List ℕ) (at : Place) {w : Window} (h : Holds s (posOf (length s)
   zeros-on-at max n z k e = zeros-from s at _ n (omega (arith, h .within, z .1)) (on n k (z .1) e) (z .2 s (posOf (length s) at) h)
 
   -- a code
-  pub code-at : (a i n : ℕ) {d : ℤ} → ReadsCode w a i (length s) (c.Diff d n) → {q : Place} → q ≡ placeOf (at .byte * 8 + at .bit + n) → read d (bitsFrom s q) ≡ readCode (length s * 8) a i (bitsFrom s at)
+  pub code-at : (a i n : ℕ) {d : ℤ} → ReadsCode w (c.Diff d n) → {q : Place} → q ≡ placeOf (at .byte * 8 + at .bit + n) → read d (bitsFrom s q) ≡ readCode (length s * 8) a i (bitsFrom s at)
   unfolding bitsFrom
-  code-at a i n {d} r e = ap (λ (u : ℕ). read d (drop u (bitsOf s))) (on n (r .0 .0) (r .0 .1) e) ∙ r .1 s (posOf (length s) at) h refl
+  code-at a i n {d} r e = ap (λ (u : ℕ). read d (drop u (bitsOf s))) (on n (r .0 .0) (r .0 .1) e) ∙ r .1 s (posOf (length s) at) a i h
 
-  pub code-cut-at : (a i : ℕ) (r : Refusal) → ReadsCode w a i (length s) (c.Refused r) → refused (told r) ≡ readCode (length s * 8) a i (bitsFrom s at)
+  pub code-cut-at : (a i left : ℕ) (m : Missing) → ReadsCode w (c.Cut m left) → refused (with (missed a i m) (placeOf (length s * 8 - left))) ≡ readCode (length s * 8) a i (bitsFrom s at)
   unfolding bitsFrom
-  code-cut-at a i r k = k .1 s (posOf (length s) at) h refl
+  code-cut-at a i left m k = k .1 s (posOf (length s) at) a i h

@@ -3,9 +3,11 @@ ghost use Prim.Native.Nat.{_≤_};
 ghost use lib.ListN.{length};
 ghost use Rattle.array_reader.specs.Inner.{Scans};
 use bits::Place;
+use bits::inner::place_left;
 use code_reader::Refusal;
 use code_reader::inner::CodeRead;
 use code_reader::inner::read_code;
+use code_reader::inner::refusal_of;
 use code_reader::inner::window_at;
 use code_reader::inner::zeros;
 use gorilla::Array;
@@ -31,12 +33,13 @@ pub fn scan(s: &[u8], at: Place, count: usize, array: Array) -> Scanned
             i += z as usize;
             continue;
         }
-        match read_code(w, array, i, s.len()) {
+        match read_code(w) {
             CodeRead::Diff(_, n) => {
                 p = bits::inner::after(p, n);
             }
-            CodeRead::Refused(r) => {
-                return Scanned::Refused(r);
+            CodeRead::Cut(missing, left) => {
+                let at = place_left(s.len(), left);
+                return Scanned::Refused(refusal_of(missing, array, i, at));
             }
         }
         i += 1;

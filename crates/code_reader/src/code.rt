@@ -1,40 +1,35 @@
 // One code: its prefix, and the difference of deltas after it.
-ghost use Prim.Native.Nat.{_*_, _≤_};
-ghost use Rattle.gorilla.specs.Array.{arrayNo};
 ghost use Rattle.code_reader.specs.Inner.{ReadsCode};
-use crate::Refusal;
+use crate::missing::Missing;
 use crate::prefix::Prefix;
 use crate::prefix::leading;
 use crate::prefix::used_of;
 use crate::window::Window;
-use bits::inner::place_left;
-use gorilla::Array;
 
 pub enum CodeRead {
     // the difference of deltas, and the bits that the code has
     Diff(i64, u8),
-    Refused(Refusal),
+    // what of it is missing, and the bits left where the code begins
+    Cut(Missing, u8),
 }
 
-// The code of an index, which a window into `len` bytes starts with.
-pub fn read_code(w: Window, array: Array, index: usize, len: usize) -> CodeRead
-    requires { ⌜ w .have ≤ len * 8 ⌝ }
-    ensures { λ r. ⌜ ReadsCode w (arrayNo array) index len r ⌝ }
+// The code that a window starts with.
+pub fn read_code(w: Window) -> CodeRead
+    ensures { λ r. ⌜ ReadsCode w r ⌝ }
 {
-    match leading(w, array, index, len) {
+    match leading(w) {
         Prefix::Ones(n) => {
             let width = gorilla::inner::width_of(n);
             let prefix = used_of(n);
             let rest = w.have - prefix;
             if rest < width {
                 // the code begins with its prefix
-                let at = place_left(len, w.have);
-                return CodeRead::Refused(Refusal::DiffCut(array, index, width, at));
+                return CodeRead::Cut(Missing::Diff(width), w.have);
             }
             let bits = prefix + width;
             let v = bits::inner::field(w.bits, 64 - bits, width);
             CodeRead::Diff(gorilla::inner::diff_of(v, width), bits)
         }
-        Prefix::Refused(r) => CodeRead::Refused(r),
+        Prefix::Refused(m) => CodeRead::Cut(m, w.have),
     }
 }

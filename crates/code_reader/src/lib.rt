@@ -2,6 +2,7 @@
 // image stand in the crate `decoder`.
 mod code; // code.rt: one code
 pub mod inner; // inner.rt: what our own crates call
+mod missing; // missing.rt: what of a code is missing
 mod prefix; // prefix.rt: the ones before a code's difference
 mod window; // window.rt: the bits at a place
 

@@ -1,23 +1,19 @@
 // A code's prefix: ones up to the first zero or the fourth one.
 ghost use mathlib.Core.Path.{_≡_};
-ghost use Prim.Native.Nat.{_+_, _*_, _≤_, min};
-ghost use Rattle.gorilla.specs.Array.{arrayNo};
+ghost use Prim.Native.Nat.{_+_, _≤_, min};
 ghost use Rattle.code_reader.specs.Inner.{ReadsPrefix};
-use crate::Refusal;
+use crate::missing::Missing;
 use crate::window::Window;
-use bits::inner::place_left;
-use gorilla::Array;
 
 pub enum Prefix {
     // the number of ones
     Ones(usize),
-    Refused(Refusal),
+    Refused(Missing),
 }
 
-// The prefix of the code of an index, which a window into `len` bytes starts with. Where it is cut off, all that is left is in the window.
-pub fn leading(w: Window, array: Array, index: usize, len: usize) -> Prefix
-    requires { ⌜ w .have ≤ len * 8 ⌝ }
-    ensures { λ r. ⌜ ReadsPrefix w (arrayNo array) index len r ⌝ }
+// The prefix of the code that a window starts with.
+pub fn leading(w: Window) -> Prefix
+    ensures { λ r. ⌜ ReadsPrefix w r ⌝ }
 {
     let mut n: usize = 0;
     let ones = loop {
@@ -25,11 +21,10 @@ pub fn leading(w: Window, array: Array, index: usize, len: usize) -> Prefix
             break n;
         }
         if w.have as usize <= n {
-            let at = place_left(len, w.have);
             if n == 0 {
-                return Prefix::Refused(Refusal::CodeEnd(array, index, at));
+                return Prefix::Refused(Missing::Code);
             }
-            return Prefix::Refused(Refusal::PrefixCut(array, index, at));
+            return Prefix::Refused(Missing::Prefix);
         }
         if (w.bits >> (63 - n)) % 2 == 0 {
             break n;

@@ -34,10 +34,6 @@ left-from s at = length-drop (posOf (length s) at) (bitsOf s) ∙ ap (λ (u : �
 pub refused-not-read : {A B : Type 0} {l : List ℕ} {x : A} {bs : List ℕ} → refused l ≡ read x bs → B
 refused-not-read h = let z : _≡_ {A = ℕ} 0 1 = cc in absurd (omega arith)
 
--- a refusal is no other, whatever would have been read
-same-refusal : {A B : Type 0} {k l : List ℕ} → _≡_ {A = Read A} (refused l) (refused k) → _≡_ {A = Read B} (refused k) (refused l)
-same-refusal {A} {B} {k} {l} h = let e : l ≡ k = cc in ap (λ (u : List ℕ). refused u) (sym e)
-
 -- an item that was read
 pub item-was : {A : Type 0} (all : ℕ) (m : Reader A) (bs : List ℕ) {x : A} {left : List ℕ} → item all m bs ≡ read x left → m bs ≡ read x left
 item-was all m bs = go (m bs)
@@ -50,8 +46,11 @@ item-was all m bs = go (m bs)
 abbrev pub At : ℕ → Place → Type 0
 At p r = (r .byte ≡ p / 8) × (r .bit ≡ p % 8)
 
+pub place-is : (p : ℕ) {r : Place} → At p r → r ≡ placeOf p
+place-is p f = ap₂ {C = Place} (λ (x y : ℕ). record { byte = x; bit = y }) (f .0) (f .1)
+
 place-by : (all : ℕ) (bs : List ℕ) {left : ℕ} {r : Place} → left ≡ length bs → At (all - left) r → placeOf (all - length bs) ≡ r
-place-by all bs e f = ap (λ (u : ℕ). placeOf (all - u)) (sym e) ∙ sym (ap₂ {C = Place} (λ (x y : ℕ). record { byte = x; bit = y }) (f .0) (f .1))
+place-by all bs e f = ap (λ (u : ℕ). placeOf (all - u)) (sym e) ∙ sym (place-is (all - _) f)
 
 -- an item that is read, and one that is refused: it tells the place r from which on as many bits are left
 pub item-read : {A : Type 0} (all : ℕ) (m : Reader A) (bs : List ℕ) {x : A} {r : List ℕ} → m bs ≡ read x r → item all m bs ≡ read x r
@@ -123,20 +122,15 @@ module _ (all a i n : ℕ) (bs : List ℕ) where
   unfolding readCode
   code-read h k = rw (← h) (rw k)
 
-  pub code-short : {r : List ℕ} {left : ℕ} {at : Place} → read n r ≡ countOnes a i 4 0 bs
-      → takeBits (getD widths n 0) (8 ∷ a ∷ i ∷ getD widths n 0 ∷ []) r ≡ refused (8 ∷ a ∷ i ∷ getD widths n 0 ∷ []) → left ≡ length bs → At (all - left) at
-      → readCode all a i bs ≡ refused (8 ∷ a ∷ i ∷ getD widths n 0 ∷ at .byte ∷ at .bit ∷ [])
+  pub code-short : {r : List ℕ} {left : ℕ} → read n r ≡ countOnes a i 4 0 bs
+      → takeBits (getD widths n 0) (8 ∷ a ∷ i ∷ getD widths n 0 ∷ []) r ≡ refused (8 ∷ a ∷ i ∷ getD widths n 0 ∷ []) → left ≡ length bs
+      → readCode all a i bs ≡ refused (with (8 ∷ a ∷ i ∷ getD widths n 0 ∷ []) (placeOf (all - left)))
   unfolding readCode
-  code-short h k e f = rw (← h) (rw k (ap (λ (p : Place). refused (8 ∷ a ∷ i ∷ getD widths n 0 ∷ p .byte ∷ p .bit ∷ [])) (place-by all bs e f)))
+  code-short h k e = rw (← h) (rw k (ap (λ (u : ℕ). refused (with (8 ∷ a ∷ i ∷ getD widths n 0 ∷ []) (placeOf (all - u)))) (sym e)))
 
--- what is refused first is refused with the same place, whatever would follow
-first-refused : {A B : Type 0} (p : ℕ) (r : Read A) (f : A → Reader B) {l : List ℕ} → refused l ≡ toldAt p r → toldAt p (andThen r f) ≡ refused l
-first-refused p (read x bs) f h = refused-not-read h
-first-refused p (refused k) f h = same-refusal h
-
-pub code-cut : (all a i : ℕ) (bs : List ℕ) {l : List ℕ} → refused l ≡ item all (countOnes a i 4 0) bs → readCode all a i bs ≡ refused l
+pub code-cut : (all a i : ℕ) (bs : List ℕ) {l : List ℕ} {left : ℕ} → refused l ≡ countOnes a i 4 0 bs → left ≡ length bs → readCode all a i bs ≡ refused (with l (placeOf (all - left)))
 unfolding readCode
-code-cut all a i bs h = first-refused (all - length bs) (countOnes a i 4 0 bs) _ h
+code-cut all a i bs {l} h e = rw (← h) (ap (λ (u : ℕ). refused (with l (placeOf (all - u)))) (sym e))
 
 -- ---- the codes, one after the other
 shape-then : {A B : Type 0} (r : Read A) (f : A → B) → shape (andThen r (λ x bs. read (f x) bs)) ≡ shape r

@@ -84,11 +84,11 @@ abbrev w-of : tie.After-read-code → tie.After-window-at
 w-of rc = rc .before .before .before
 
 read-is : (c : tie.After-d)
-    → ReadsCode (w-of (c .before .before) .window-at .result) (a-of (st-of (w-of (c .before .before)))) ((st-of (w-of (c .before .before))) .args .index) (length ((st-of (w-of (c .before .before))) .args .s .now)) (v.Diff (c .d .given .0 .0) (c .d .given .0 .1 .0))
+    → ReadsCode (w-of (c .before .before) .window-at .result) (v.Diff (c .d .given .0 .0) (c .d .given .0 .1 .0))
 read-is c =
     let rc = c .before .before in
     let wa = w-of rc in
-    subst (ReadsCode (wa .window-at .result) (a-of (st-of wa)) ((st-of wa) .args .index) (length ((st-of wa) .args .s .now))) (c .d .given .1) (rc .read-code .ensures)
+    subst (ReadsCode (wa .window-at .result)) (c .d .given .1) (rc .read-code .ensures)
 
 after-requires-2 : tie.Need-after-requires-2
 after-requires-2 c κs =
@@ -124,9 +124,9 @@ returns-3 c =
     let rc = c .before .before in
     let wa = w-of rc in
     let st = st-of wa in
-    let k = subst (ReadsCode (wa .window-at .result) (a-of st) (st .args .index) (length (st .args .s .now))) (c .enum-told .given .1) (rc .read-code .ensures) in
+    let k = subst (ReadsCode (wa .window-at .result)) (c .enum-told .given .1) (rc .read-code .ensures) in
     there-not (code-of st (ahead (st .args .s .now) (st .args .c)))
-    (code-cut-at (st .args .s .now) (st .args .c .at) (wa .window-at .ensures) (a-of st) (st .args .index) (c .enum-told .given .0 .0) k ∙ at-place st) (st .pre .2)
+    (code-cut-at (st .args .s .now) (st .args .c .at) (wa .window-at .ensures) (a-of st) (st .args .index) (c .enum-told .given .0 .1 .0) (c .enum-told .given .0 .0) k ∙ at-place st) (st .pre .2)
 
 pub step-spec : {M : Type 1} → statement M
 step-spec =

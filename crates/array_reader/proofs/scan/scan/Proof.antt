@@ -8,11 +8,11 @@ use lib.IntN.{ℤ}
 use Rattle.bits.specs.declared.Place.{Place}
 use Rattle.gorilla.specs.Array.{arrayNo}
 use Rattle.gorilla.specs.Inner.{shape}
-use Rattle.gorilla.specs.Parser.{Read, read}
+use Rattle.gorilla.specs.Parser.{Read, read, refused, with}
 use Rattle.bits.specs.Inner.{bitsFrom}
 use Rattle.gorilla.specs.Reading.{readCode, readCodes}
-use Rattle.gorilla.proofs.Readers.{shape-next, codes-cut}
-use Rattle.code_reader.specs.Inner.{ReadsCode}
+use Rattle.gorilla.proofs.Readers.{place-is, shape-next, codes-cut}
+use Rattle.code_reader.specs.Inner.{missed, ReadsCode}
 use Rattle.code_reader.specs.declared.code.CodeRead.the-variants as v
 use Rattle.array_reader.proofs.Runs.{zeros-codes, zeros-on-at, code-at, code-cut-at, here}
 use Rattle.array_reader.proofs.scan.scan.Statement.{statement}
@@ -118,11 +118,11 @@ abbrev w-of : tie.After-read-code Inv-loop μ-loop → tie.After-window-at Inv-l
 w-of rc = rc .before .before .before
 
 read-is : (c : tie.After-n Inv-loop μ-loop)
-    → ReadsCode (w-of (c .before .before) .window-at .result) (a-of (w-of (c .before .before) .before)) (i-of (w-of (c .before .before) .before)) (length (s-of (w-of (c .before .before) .before))) (v.Diff (c .n .given .0 .0) (c .n .given .0 .1 .0))
+    → ReadsCode (w-of (c .before .before) .window-at .result) (v.Diff (c .n .given .0 .0) (c .n .given .0 .1 .0))
 read-is c =
     let rc = c .before .before in
     let wa = w-of rc in
-    subst (ReadsCode (wa .window-at .result) (a-of (wa .before)) (i-of (wa .before)) (length (s-of (wa .before)))) (c .n .given .1) (rc .read-code .ensures)
+    subst (ReadsCode (wa .window-at .result)) (c .n .given .1) (rc .read-code .ensures)
 
 after-requires-2 : tie.Need-after-requires-2 Inv-loop μ-loop
 after-requires-2 c κs =
@@ -134,18 +134,33 @@ after-requires-2 c κs =
     let m : n ≤ 64 = omega (arith, r .0 .1, wa .window-at .ensures .most) in
     search (needs, h, m)
 
-enum-known-r : tie.Need-enum-known-r Inv-loop μ-loop
-enum-known-r c = search needs
+enum-known-missing : tie.Need-enum-known-missing Inv-loop μ-loop
+enum-known-missing c = search needs
+
+-- the code that was cut off
+cut-is : (c : tie.After-missing Inv-loop μ-loop) → ReadsCode (w-of (c .before .before) .window-at .result) (v.Cut (c .missing .given .0 .0) (c .missing .given .0 .1 .0))
+cut-is c = let rc = c .before .before in subst (ReadsCode (w-of rc .window-at .result)) (c .missing .given .1) (rc .read-code .ensures)
+
+place-left-requires : tie.Need-place-left-requires Inv-loop μ-loop
+place-left-requires c κs =
+    let m = c .before in
+    let wa = w-of (m .before .before) in
+    omega (arith, cut-is m .0, wa .window-at .ensures .within)
+
+refusal-of-requires : tie.Need-refusal-of-requires Inv-loop μ-loop
+refusal-of-requires c κs = search needs
 
 -- a code that is cut off ends the scan
 returns : tie.Need-returns Inv-loop μ-loop
 returns c =
-    let r = c .before in
-    let rc = r .before .before in
-    let wa = w-of rc in
+    let p = c .before in
+    let m = p .before .before in
+    let wa = w-of (m .before .before) in
     let t = wa .before in
-    let k = subst (ReadsCode (wa .window-at .result) (a-of t) (i-of t) (length (s-of t))) (r .r .given .1) (rc .read-code .ensures) in
-    sym (ap shape (codes-cut (all-of t) (a-of t) (k-of t) (i-of t) (here-of t) (code-cut-at (s-of t) (t .before .loop .p) (wa .window-at .ensures) (a-of t) (i-of t) (r .r .given .0 .0) k))) ∙ left t
+    let n : ℕ = m .missing .given .0 .1 .0 in
+    let e = code-cut-at (s-of t) (t .before .loop .p) (wa .window-at .ensures) (a-of t) (i-of t) n (m .missing .given .0 .0) (cut-is m) in
+    let told-is = c .refusal-of .ensures ∙ ap (with (missed (a-of t) (i-of t) (m .missing .given .0 .0))) (place-is (all-of t - n) (p .place-left .ensures)) in
+    ap (λ (l : List ℕ). refused l) told-is ∙ sym (ap shape (codes-cut (all-of t) (a-of t) (k-of t) (i-of t) (here-of t) e)) ∙ left t
 
 add-i-2 : tie.Need-add-i-2 Inv-loop μ-loop
 add-i-2 c = search needs
@@ -186,7 +201,9 @@ scan-spec =
     read-code-requires
     enum-known-n
     after-requires-2
-    enum-known-r
+    enum-known-missing
+    place-left-requires
+    refusal-of-requires
     returns
     add-i-2
     loop-less-2

@@ -3,22 +3,21 @@ use borrow.Author.Needs.{needs}
 use Prim.Native.Nat.{ℕ, _+_, _-_, _*_, _/_, _%_, _^_, _≤_, _<_, min}
 use mathlib.Core.Path.{_≡_, sym, ap, ap₂, _∙_, subst}
 use mathlib.Core.List.{List, [], _∷_}
-use native.Mathlib.Nat.{mod-lt}
+use native.Mathlib.Nat.{mod-lt, le-refl}
 use lib.IntN.{ℤ}
 use lib.ListN.{length, drop, getD}
 use lib.Pow.{pow-mono, pow-pos}
 use mir.Syntax.{w64}
 use mir.Val.{SFits}
 use mir.Facts.{toZ-ofZ}
-use Rattle.bits.specs.declared.Place.{Place}
 use Rattle.raw_bits.specs.Inner.{bitsAt}
-use Rattle.gorilla.specs.Array.{arrayNo}
 use Rattle.bit_lists.specs.BitList.{bitsOf}
-use Rattle.gorilla.specs.Parser.{read, refused}
+use Rattle.bits.specs.Place.{placeOf}
+use Rattle.gorilla.specs.Parser.{read, refused, with}
 use Rattle.gorilla.specs.Reading.{countOnes, readCode}
 use Rattle.gorilla.specs.Rows.{widths, decoded}
 use Rattle.gorilla.proofs.Bridge.{take-at, take-short}
-use Rattle.gorilla.proofs.Readers.{width-most, item-was, code-read, code-short, code-cut}
+use Rattle.gorilla.proofs.Readers.{width-most, code-read, code-short, code-cut}
 use Rattle.code_reader.specs.Inner.{Holds, toldPrefix, WithinPrefix}
 use Rattle.code_reader.specs.declared.window.Window.{Window}
 use Rattle.code_reader.proofs.Windows.{bits-in, left-in}
@@ -34,15 +33,6 @@ st-of c = c .before .before .before .before .before .before
 
 abbrev w-of : tie.After-used-of → Window
 w-of c = (st-of c) .args .w
-
-abbrev a-of : tie.After-used-of → ℕ
-a-of c = arrayNo ((st-of c) .args .array)
-
-abbrev i-of : tie.After-used-of → ℕ
-i-of c = (st-of c) .args .index
-
-abbrev len-of : tie.After-used-of → ℕ
-len-of c = (st-of c) .args .len
 
 abbrev an-of : tie.After-used-of → tie.After-n
 an-of c = c .before .before .before
@@ -63,11 +53,10 @@ sizes c =
     let g = few (an-of c) (an-of c .before .before .leading .ensures .0) in
     (e, f, omega (arith, e), omega (arith, e), omega (arith, f, width-most (n-of (an-of c))), omega (arith, e, g))
 
-prefix-is : (c : tie.After-used-of) (xs : List ℕ) (q : ℕ) → Holds xs q (w-of c) → length xs ≡ len-of c → read (n-of (an-of c)) (drop (q + c .used-of .result) (bitsOf xs)) ≡ countOnes (a-of c) (i-of c) 4 0 (drop q (bitsOf xs))
-prefix-is c xs q z g =
+prefix-is : (c : tie.After-used-of) (xs : List ℕ) (q a i : ℕ) → Holds xs q (w-of c) → read (n-of (an-of c)) (drop (q + c .used-of .result) (bitsOf xs)) ≡ countOnes a i 4 0 (drop q (bitsOf xs))
+prefix-is c xs q a i z =
     let al = an-of c .before .before in
-    sym (item-was (len-of c * 8) (countOnes (a-of c) (i-of c) 4 0) (drop q (bitsOf xs))
-    (sym (ap (λ (u : ℕ). read (n-of (an-of c)) (drop (q + u) (bitsOf xs))) (c .used-of .ensures) ∙ ap (toldPrefix xs q) (sym (an-of c .n .given .1)) ∙ al .leading .ensures .1 xs q z g)))
+    ap (λ (u : ℕ). read (n-of (an-of c)) (drop (q + u) (bitsOf xs))) (c .used-of .ensures) ∙ ap (toldPrefix xs q a i) (sym (an-of c .n .given .1)) ∙ al .leading .ensures .1 xs q a i z
 
 -- a code whose bits are all there
 there : (all a i n U W : ℕ) {xs : List ℕ} {q : ℕ} {w : Window} → Holds xs q w → W ≡ getD widths n 0 → U + W ≤ w .have
@@ -97,28 +86,24 @@ sub-rest : tie.Need-sub-rest
 unfolding Sizes
 sub-rest c = omega (arith, sizes (c .before))
 
-place-left-requires : tie.Need-place-left-requires
-place-left-requires c κs = search needs
-
 -- the difference is cut off
 returns : tie.Need-returns
 unfolding Sizes
 returns c =
-    let uo = c .before .before .before in
+    let uo = c .before .before in
     let W : ℕ = uo .before .width-of .result in
     let U : ℕ = uo .used-of .result in
-    let l : w-of uo .have < U + W = omega (arith, c .before .if1 .taken, sizes uo) in
+    let l : w-of uo .have < U + W = omega (arith, c .if1 .taken, sizes uo) in
     let f = sizes uo .1 in (
-      tt,
-      λ xs q z g.
+      le-refl _,
+      λ xs q a i z.
           let o : U + W ≤ 36 = omega (arith, sizes uo) in
           let e : q + w-of uo .have ≡ length xs * 8 = z .last (omega arith) in
           let h : q + U ≤ length xs * 8 = omega (arith, sizes uo) in
           let k : length xs * 8 < q + U + getD widths (n-of (an-of uo)) 0 = omega (arith, f) in
-          let at : Place = c .place-left .result in
-          ap (λ (u : ℕ). refused (8 ∷ a-of uo ∷ i-of uo ∷ u ∷ at .byte ∷ at .bit ∷ [])) f
-          ∙ sym (code-short (len-of uo * 8) (a-of uo) (i-of uo) (n-of (an-of uo)) (drop q (bitsOf xs)) (prefix-is uo xs q z g)
-          (take-short _ xs (getD widths (n-of (an-of uo)) 0) (q + U) h k) (left-in z (omega arith)) (c .place-left .ensures)),
+          ap (λ (u : ℕ). refused (with (8 ∷ a ∷ i ∷ u ∷ []) (placeOf (length xs * 8 - w-of uo .have)))) f
+          ∙ sym (code-short (length xs * 8) a i (n-of (an-of uo)) (drop q (bitsOf xs)) (prefix-is uo xs q a i z)
+          (take-short _ xs (getD widths (n-of (an-of uo)) 0) (q + U) h k) (left-in z (omega arith))),
     )
 
 add-bits : tie.Need-add-bits
@@ -142,8 +127,8 @@ diff-of-requires c κs =
     let m : w ≤ 32 = sizes uo .4 in
     (omega (arith, c .field .ensures, low, pow-mono m), m)
 
-enum-known-r : tie.Need-enum-known-r
-enum-known-r c = search needs
+enum-known-m : tie.Need-enum-known-m
+enum-known-m c = search needs
 
 returns-2 : tie.Need-returns-2
 unfolding Sizes
@@ -156,9 +141,9 @@ returns-2 c =
     let l : U + W ≤ w-of uo .have = omega (arith, el .if1 .left, sizes uo) in
     let f : SFits w64 (c .diff-of .result) = search needs in (
       (omega (arith, sizes uo), l),
-      λ xs q z g.
+      λ xs q a i z.
           ap (λ (d : ℤ). read d (drop (q + (U + W)) (bitsOf xs))) (toZ-ofZ f ∙ c .diff-of .ensures ∙ ap (decoded W) (fl .field .ensures))
-          ∙ there (len-of uo * 8) (a-of uo) (i-of uo) (n-of (an-of uo)) U W z (sizes uo .1) l (prefix-is uo xs q z g),
+          ∙ there (length xs * 8) a i (n-of (an-of uo)) U W z (sizes uo .1) l (prefix-is uo xs q a i z),
     )
 
 returns-3 : tie.Need-returns-3
@@ -166,7 +151,9 @@ returns-3 c =
     let r = c .before in
     let al = r .before .before in
     let st = al .before in
-    (tt, λ xs q z g. sym (code-cut (st .args .len * 8) (arrayNo (st .args .array)) (st .args .index) (drop q (bitsOf xs)) (ap (toldPrefix xs q) (sym (r .r .given .1)) ∙ al .leading .ensures .1 xs q z g)))
+    let h : WithinPrefix (st .args .w) (al .leading .result) = al .leading .ensures .0 in
+    let k : st .args .w .have < 4 = subst (WithinPrefix (st .args .w)) (r .m .given .1) h in
+    (le-refl _, λ xs q a i z. sym (code-cut (length xs * 8) a i (drop q (bitsOf xs)) (ap (toldPrefix xs q a i) (sym (r .m .given .1)) ∙ al .leading .ensures .1 xs q a i z) (left-in z (omega (arith, k)))))
 
 pub read-code-spec : {M : Type 1} → statement M
 read-code-spec =
@@ -177,12 +164,11 @@ read-code-spec =
     width-of-requires
     used-of-requires
     sub-rest
-    place-left-requires
     returns
     add-bits
     sub-field
     field-requires
     diff-of-requires
-    enum-known-r
+    enum-known-m
     returns-2
     returns-3)
