@@ -1,6 +1,6 @@
 -- What the calls answer of an image that is cut off. Assumes nothing.
 use Prim.Native.Nat.{ℕ, _-_, _/_, _<_, min}
-use mathlib.Core.Path.{_≡_, refl, sym, ap, _∙_, subst}
+use mathlib.Core.Path.{_≡_, refl, sym, ap, subst}
 use mathlib.Core.Bool.{Bool, true}
 use mathlib.Core.List.{List}
 use lib.Dec.{leb}
