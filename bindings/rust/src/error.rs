@@ -34,7 +34,7 @@ impl fmt::Display for Array {
 /// Why a call was refused: a number of the list of refusals in docs/RULES.md, with what it also tells. `array` says which of the two it was, and `index`,
 /// counted from 0, at which of its values.
 ///
-/// `at`, of 4 to 8, says where the bytes stop: it is the place, in the bytes that were read, at which the item begins that is not there in full. What stands before it
+/// `at`, of 4 to 8, says where the bytes stop: it is the place, in the bytes that were given, at which the item begins that is not there in full. What stands before it
 /// was read. [`Error::place`] gives it for all five.
 ///
 /// ```no_run

@@ -9,7 +9,7 @@ use crate::Answer;
 use bits::Place;
 use gorilla::Array;
 
-// The only place where an answer is made: 0 and what is given, or a number and what it also tells, with a place.
+// The one function that makes an answer: 0 and what is given, or a number and what it also tells, with a place.
 fn answer_at(number: u32, a: u64, b: u64, c: u64, at: Place) -> Answer
     ensures { λ r. ⌜ r ≡ record { number = number; a = a; b = b; c = c; byte = at .byte; bit = at .bit } ⌝ }
 {

@@ -8,7 +8,7 @@ use crate::Refusal;
 use bits::Place;
 use gorilla::Array;
 
-// Refusals 6 to 8, without array, index and place: small, since one is returned for each code.
+// Refusals 6 to 8, without array, index and place: small, since the answer to each code has room for one.
 pub enum Missing {
     // 6: all of it
     Code,
