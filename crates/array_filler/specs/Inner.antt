@@ -19,6 +19,6 @@ ahead xs c = replicate (c .zeros) 0 ++ bitsFrom xs (c .at)
 abbrev pub Stepped : List ℕ → ℕ → ℕ → Cursor → Cursor → Type 0
 Stepped xs a i c r = (d : ℤ) × (read d (ahead xs r) ≡ readCode (length xs * 8) a i (ahead xs c)) × (r .track ≡ followed (c .track) d)
 
--- a cursor that has no zeros left, and whose next code is there
-abbrev pub CanStep : List ℕ → ℕ → ℕ → Cursor → Type 0
-CanStep xs a i c = (c .zeros ≡ 0) × (8 ≤ length xs) × (isRead (readCode (length xs * 8) a i (ahead xs c)) ≡ true)
+-- a cursor that has no zeros left, and whose next code is there, of whatever index
+abbrev pub CanStep : List ℕ → Cursor → Type 0
+CanStep xs c = (c .zeros ≡ 0) × (8 ≤ length xs) × ((a : ℕ) × (i : ℕ) × (isRead (readCode (length xs * 8) a i (ahead xs c)) ≡ true))

@@ -5,7 +5,6 @@ ghost use Prim.Native.Nat.{ℕ, _≤_, _<_};
 ghost use lib.ListN.{length};
 ghost use Rattle.told.specs.Over.{over};
 ghost use Rattle.signed.specs.Signed.{pattern};
-ghost use Rattle.gorilla.specs.Array.{arrayNo};
 ghost use Rattle.array_reader.specs.Inner.{arrayAt, passedAt};
 ghost use Rattle.array_filler.specs.Inner.{Stepped, CanStep};
 use bits::Place;
@@ -13,7 +12,6 @@ use code_reader::inner::CodeRead;
 use code_reader::inner::read_code;
 use code_reader::inner::window_at;
 use code_reader::inner::zeros;
-use gorilla::Array;
 use gorilla::Track;
 use gorilla::inner::follow;
 
@@ -39,11 +37,11 @@ fn coast(c: Cursor) -> Cursor
     }
 }
 
-// One value on, by the code of an index that is there, where no zeros are left. Codes of one zero bit are the common
-// ones: it finds as many as one window has.
-fn step(s: &[u8], c: Cursor, array: Array, index: usize) -> Cursor
-    requires { ⌜ CanStep (now s) (arrayNo array) index c ⌝ }
-    ensures { λ r. ⌜ Stepped (now (s .entry)) (arrayNo array) index c r ⌝ }
+// One value on, by a code that is there, where no zeros are left. Codes of one zero bit are the common ones: it finds
+// as many as one window has.
+fn step(s: &[u8], c: Cursor) -> Cursor
+    requires { ⌜ CanStep (now s) c ⌝ }
+    ensures { λ r. ⌜ ((a i : ℕ) → Stepped (now (s .entry)) a i c r) ⌝ }
 {
     let at = c.at;
     let t = c.track;
@@ -92,7 +90,7 @@ pub fn fill_secs(s: &[u8], at: Place, count: usize, first: i64, out: &mut [i64])
         if 0 < c.zeros {
             c = coast(c);
         } else {
-            c = step(s, c, Array::Seconds, i);
+            c = step(s, c);
         }
         let t = c.track;
         let v = t.prev;
@@ -123,7 +121,7 @@ pub fn fill_seqs(s: &[u8], at: Place, count: usize, first: i64, out: &mut [u64])
         if 0 < c.zeros {
             c = coast(c);
         } else {
-            c = step(s, c, Array::Sequences, i);
+            c = step(s, c);
         }
         let t = c.track;
         let v = signed::as_unsigned(t.prev);

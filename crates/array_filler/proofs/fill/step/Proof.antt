@@ -8,7 +8,6 @@ use lib.ListN.{length, replicate}
 use mir.Syntax.{w64}
 use mir.Val.{SFits}
 use mir.Facts.{toZ-ofZ}
-use Rattle.gorilla.specs.Array.{arrayNo}
 use Rattle.gorilla.specs.Parser.{Read, read}
 use Rattle.bits.specs.Inner.{bitsFrom}
 use Rattle.gorilla.specs.Reading.{readCode}
@@ -23,16 +22,13 @@ use Rattle.array_filler.proofs.fill.step.Tie as tie
 abbrev st-of : tie.After-window-at → tie.Start
 st-of wa = wa .before .before .before .before
 
-abbrev a-of : tie.Start → ℕ
-a-of st = arrayNo (st .args .array)
-
--- the code of the index, from these bits on
-abbrev code-of : tie.Start → List ℕ → Read ℤ
-code-of st = readCode (length (st .args .s .now) * 8) (a-of st) (st .args .index)
+-- the code of index i of array a, from these bits on
+abbrev code-of : tie.Start → ℕ → ℕ → List ℕ → Read ℤ
+code-of st a i = readCode (length (st .args .s .now) * 8) a i
 
 -- what the cursor has ahead is what stands at its place
-at-place : (st : tie.Start) → code-of st (bitsFrom (st .args .s .now) (st .args .c .at)) ≡ code-of st (ahead (st .args .s .now) (st .args .c))
-at-place st = ap (λ (n : ℕ). code-of st (replicate n 0 ++ bitsFrom (st .args .s .now) (st .args .c .at))) (sym (st .pre .0))
+at-place : (st : tie.Start) (a i : ℕ) → code-of st a i (bitsFrom (st .args .s .now) (st .args .c .at)) ≡ code-of st a i (ahead (st .args .s .now) (st .args .c))
+at-place st a i = ap (λ (n : ℕ). code-of st a i (replicate n 0 ++ bitsFrom (st .args .s .now) (st .args .c .at))) (sym (st .pre .0))
 
 window-at-requires : tie.Need-window-at-requires
 window-at-requires c κs = c .before .before .before .pre .1
@@ -40,11 +36,11 @@ window-at-requires c κs = c .before .before .before .pre .1
 zeros-requires : tie.Need-zeros-requires
 zeros-requires c κs = search needs
 
-cast-t12 : tie.Need-cast-t12
-cast-t12 c = search needs
+cast-t10 : tie.Need-cast-t10
+cast-t10 c = search needs
 
-sub-t13 : tie.Need-sub-t13
-sub-t13 c = search needs
+sub-t11 : tie.Need-sub-t11
+sub-t11 c = search needs
 
 after-requires : tie.Need-after-requires
 after-requires c κs =
@@ -66,10 +62,10 @@ returns c =
     let wa = z .before in
     let st = st-of wa in
     let s = st .args .s .now in
-    let n : ℕ = z .zeros .result in (
+    let n : ℕ = z .zeros .result in λ a i. (
       pos 0,
-      zeros-code (length s * 8) (a-of st) (st .args .index) n (bitsFrom s (af .after .result)) (t1 .if1 .taken)
-          ∙ ap (code-of st) (sym (zeros-on-at s (st .args .c .at) (wa .window-at .ensures) 64 n (z .zeros .ensures) (t1 .if1 .taken) (af .after .ensures))) ∙ at-place st,
+      zeros-code (length s * 8) a i n (bitsFrom s (af .after .result)) (t1 .if1 .taken)
+          ∙ ap (code-of st a i) (sym (zeros-on-at s (st .args .c .at) (wa .window-at .ensures) 64 n (z .zeros .ensures) (t1 .if1 .taken) (af .after .ensures))) ∙ at-place st a i,
       c .follow .ensures,
     )
 
@@ -112,9 +108,9 @@ returns-2 c =
     let ad = af .before .before in
     let wa = w-of (ad .before .before) in
     let st = st-of wa in
-    let g : SFits w64 (ad .d .given .0 .0) = search needs in (
+    let g : SFits w64 (ad .d .given .0 .0) = search needs in λ a i. (
       ad .d .given .0 .0,
-      code-at (st .args .s .now) (st .args .c .at) (wa .window-at .ensures) (a-of st) (st .args .index) _ (read-is ad) (af .after2 .ensures) ∙ at-place st,
+      code-at (st .args .s .now) (st .args .c .at) (wa .window-at .ensures) a i _ (read-is ad) (af .after2 .ensures) ∙ at-place st a i,
       rw (toZ-ofZ g) at (c .follow2 .ensures),
     )
 
@@ -125,8 +121,10 @@ returns-3 c =
     let wa = w-of rc in
     let st = st-of wa in
     let k = subst (ReadsCode (wa .window-at .result)) (c .enum-told .given .1) (rc .read-code .ensures) in
-    there-not (code-of st (ahead (st .args .s .now) (st .args .c)))
-    (code-cut-at (st .args .s .now) (st .args .c .at) (wa .window-at .ensures) (a-of st) (st .args .index) (c .enum-told .given .0 .1 .0) (c .enum-told .given .0 .0) k ∙ at-place st) (st .pre .2)
+    let a = st .pre .2 .0 in
+    let i = st .pre .2 .1 in
+    there-not (code-of st a i (ahead (st .args .s .now) (st .args .c)))
+    (code-cut-at (st .args .s .now) (st .args .c .at) (wa .window-at .ensures) a i (c .enum-told .given .0 .1 .0) (c .enum-told .given .0 .0) k ∙ at-place st a i) (st .pre .2 .2)
 
 pub step-spec : {M : Type 1} → statement M
 step-spec =
@@ -134,8 +132,8 @@ step-spec =
     (tie.spec
     window-at-requires
     zeros-requires
-    cast-t12
-    sub-t13
+    cast-t10
+    sub-t11
     after-requires
     follow-requires
     returns
