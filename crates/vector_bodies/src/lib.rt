@@ -2,4 +2,3 @@
 // has. For the program `vectors` and the crates beside it.
 pub mod digest; // digest.rt: digests of long lists and images
 pub mod lists; // lists.rt: lists of sequences and seconds
-pub mod outcome; // outcome.rt: what the reader answers

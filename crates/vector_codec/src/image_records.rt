@@ -1,9 +1,9 @@
 // Records of images that are read: D.
 use std::num::wrapping_add_usize as after;
-use vector_bodies::outcome;
 use vector_bytes::part;
 use vector_bytes::u8_at;
 use vector_bytes::u16_at;
+use vector_outcomes as outcome;
 use vector_tally as tally;
 
 // Whether an image has the length that stands in a body at `at`, and the bytes after it follow; or is refused, and none do.

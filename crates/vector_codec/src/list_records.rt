@@ -4,11 +4,11 @@ use encoder::EncodedLen;
 use encoder::Refusal;
 use vector_bodies::digest::image_so;
 use vector_bodies::lists;
-use vector_bodies::outcome;
 use vector_bytes::begins;
 use vector_bytes::part;
 use vector_bytes::u8_at;
 use vector_bytes::u32_at;
+use vector_outcomes as outcome;
 use vector_tally as tally;
 
 // Bytes that hold the image of every list that a rule makes: 36 bits a code.

@@ -11,13 +11,13 @@ use tracker::Second;
 use tracker::Seq;
 use tracker::SequenceTracker;
 use vector_bodies::lists;
-use vector_bodies::outcome::refused_so;
 use vector_bytes::i64_at;
 use vector_bytes::part;
 use vector_bytes::u8_at;
 use vector_bytes::u16_at;
 use vector_bytes::u32_at;
 use vector_bytes::u64_at;
+use vector_outcomes::refused_so;
 
 // The table after a record, and whether the record's answer was met.
 pub struct Changed {

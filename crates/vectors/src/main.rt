@@ -1,6 +1,5 @@
 // Replays answers of the real Rust on the port and compares every one. compare/FORMAT.md says what the input has.
 mod records; // records.rt: one record of any kind
-mod sizes; // sizes.rt: the bodies that each kind may have
 mod stored; // stored.rt: the input, one record after the other
 mod verdict; // verdict.rt: what is printed
 

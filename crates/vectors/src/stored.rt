@@ -1,12 +1,12 @@
 // The input: its head, and one record after the other.
 use crate::records::replay;
-use crate::sizes::is_whole;
 use std::num::wrapping_add_usize as after;
 use vector_bytes::begins;
 use vector_bytes::part;
 use vector_bytes::u8_at;
 use vector_bytes::u16_at;
 use vector_bytes::u32_at;
+use vector_sizes::is_whole;
 use vector_tally as tally;
 
 // One byte more than the input may have, so that too long an input is seen.

@@ -1,13 +1,13 @@
-// Answers of the reader as FORMAT.md writes them: the number of docs/RULES.md and, 256 times, the byte
-// that it also tells; and for 4 to 8 where the bytes stop.
-use crate::digest;
-use crate::lists::values_so;
+// Answers of the reader as compare/FORMAT.md writes them: the number of docs/RULES.md and, 256 times, the byte
+// that it also tells; and for 4 to 8 where the bytes stop. For the program `vectors`.
 use bits::Place;
 use decoder::Decoded;
 use decoder::ImageLen;
 use decoder::Refusal;
 use gorilla::Array;
 use std::num::wrapping_add_usize as after;
+use vector_bodies::digest;
+use vector_bodies::lists::values_so;
 use vector_bytes::u8_at;
 use vector_bytes::u16_at;
 use vector_bytes::u32_at;

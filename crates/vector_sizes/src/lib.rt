@@ -1,4 +1,4 @@
-// The bodies that FORMAT.md allows each kind.
+// The bodies that compare/FORMAT.md allows each kind of record. For the program `vectors`.
 ghost use Prim.Native.Nat.{_<_};
 use vector_bodies::lists::LISTED;
 use vector_bodies::lists::MOST;
@@ -67,7 +67,7 @@ fn is_counted(kind: u8, b: &[u8]) -> bool {
     }
 }
 
-// Whether a record is as FORMAT.md has it.
+// Whether a record is as compare/FORMAT.md has it.
 pub fn is_whole(kind: u8, b: &[u8]) -> bool {
     (b.len() <= LONGEST) & is_counted(kind, b)
 }
