@@ -38,8 +38,8 @@ pub fn scan(s: &[u8], at: Place, count: usize, array: Array) -> Scanned
                 p = bits::inner::after(p, n);
             }
             CodeRead::Cut(missing, left) => {
-                let at = place_left(s.len(), left);
-                return Scanned::Refused(refusal_of(missing, array, i, at));
+                let begins = place_left(s.len(), left);
+                return Scanned::Refused(refusal_of(missing, array, i, begins));
             }
         }
         i += 1;

@@ -37,7 +37,7 @@ missed a i (m.Diff width) = 8 ∷ a ∷ i ∷ width ∷ []
 -- ---- answers as what a reader gives, of the bytes xs from bit q on, for index i of array a
 abbrev pub toldPrefix : List ℕ → ℕ → ℕ → ℕ → Prefix → Read ℕ
 toldPrefix xs q a i (p.Ones n) = read n (drop (q + min (n + 1) 4) (bitsOf xs))
-toldPrefix xs q a i (p.Refused m) = refused (missed a i m)
+toldPrefix xs q a i (p.Cut m) = refused (missed a i m)
 
 abbrev pub toldCode : List ℕ → ℕ → ℕ → ℕ → CodeRead → Read ℤ
 toldCode xs q a i (c.Diff d n) = read d (drop (q + n) (bitsOf xs))
@@ -46,7 +46,7 @@ toldCode xs q a i (c.Cut m left) = refused (with (missed a i m) (placeOf (length
 -- a prefix has at most four ones, and its bits are bits of w; where one is cut off, w has fewer than four
 abbrev pub WithinPrefix : Window → Prefix → Type 0
 WithinPrefix w (p.Ones n) = (n ≤ 4) × (min (n + 1) 4 ≤ w .have)
-WithinPrefix w (p.Refused m) = w .have < 4
+WithinPrefix w (p.Cut m) = w .have < 4
 
 -- a code has bits, and they are bits of w, as are those that are left where one is cut off
 abbrev pub WithinCode : Window → CodeRead → Type 0

@@ -30,6 +30,6 @@ pub fn read_code(w: Window) -> CodeRead
             let v = bits::inner::field(w.bits, 64 - bits, width);
             CodeRead::Diff(gorilla::inner::diff_of(v, width), bits)
         }
-        Prefix::Refused(m) => CodeRead::Cut(m, w.have),
+        Prefix::Cut(m) => CodeRead::Cut(m, w.have),
     }
 }

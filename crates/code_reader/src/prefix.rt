@@ -8,7 +8,8 @@ use crate::window::Window;
 pub enum Prefix {
     // the number of ones
     Ones(usize),
-    Refused(Missing),
+    // what is missing: all of the code, or some of its prefix
+    Cut(Missing),
 }
 
 // The prefix of the code that a window starts with.
@@ -22,9 +23,9 @@ pub fn leading(w: Window) -> Prefix
         }
         if w.have as usize <= n {
             if n == 0 {
-                return Prefix::Refused(Missing::Code);
+                return Prefix::Cut(Missing::Code);
             }
-            return Prefix::Refused(Missing::Prefix);
+            return Prefix::Cut(Missing::Prefix);
         }
         if (w.bits >> (63 - n)) % 2 == 0 {
             break n;

@@ -10,6 +10,7 @@ pub mod RoundTrip
 pub mod Counts
 pub mod Ignored
 pub mod Stops
+pub mod Begins
 pub mod Cuts
 pub mod Rooms
 pub mod Unique

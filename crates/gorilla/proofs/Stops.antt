@@ -24,7 +24,7 @@ use Rattle.gorilla.proofs.Counts.{both}
 use Rattle.gorilla.proofs.Ignored.{Takes, Any, any-grow, bits-takes, item-takes, code-takes, align-takes}
 
 -- ---- what a refused reader was given
-short-of : (n : ℕ) (k bs : List ℕ) {l : List ℕ} → takeBits n k bs ≡ refused l → (l ≡ k) × (length bs < n)
+pub short-of : (n : ℕ) (k bs : List ℕ) {l : List ℕ} → takeBits n k bs ≡ refused l → (l ≡ k) × (length bs < n)
 unfolding takeBits
 short-of n k bs {l} h = go (ltb (length bs) n) refl h
   where
@@ -40,13 +40,13 @@ one b h = omega arith
 record Ended (a i k n : ℕ) (bs l : List ℕ) : Type 0 where
   ones : ℕ
   few : ones < k
-  all : bs ≡ replicate ones 1
+  is : bs ≡ replicate ones 1
   told : l ≡ cutNumber (n + ones) ∷ a ∷ i ∷ []
 
 ones-ended : (a i k n : ℕ) (bs l : List ℕ) → AllBits bs → countOnes a i k n bs ≡ refused l → Ended a i k n bs l
 unfolding countOnes AllBits
 ones-ended a i zero n bs l b h = refused-not-read (sym h)
-ones-ended a i (suc k) n [] l b h = record { ones = 0; few = omega arith; all = refl; told = let e : l ≡ cutNumber n ∷ a ∷ i ∷ [] = cc in e ∙ ap (λ (u : ℕ). cutNumber u ∷ a ∷ i ∷ []) (sym (add-zero n)) }
+ones-ended a i (suc k) n [] l b h = record { ones = 0; few = omega arith; is = refl; told = let e : l ≡ cutNumber n ∷ a ∷ i ∷ [] = cc in e ∙ ap (λ (u : ℕ). cutNumber u ∷ a ∷ i ∷ []) (sym (add-zero n)) }
 ones-ended a i (suc k) n (zero ∷ bs) l b h = refused-not-read (sym h)
 ones-ended a i (suc k) n (suc c ∷ bs) l (b, bb) h =
     let e = ones-ended a i k (n + 1) bs l bb h in
@@ -54,7 +54,7 @@ ones-ended a i (suc k) n (suc c ∷ bs) l (b, bb) h =
     record {
       ones = suc (e .ones);
       few = omega (arith, e .few);
-      all = ap (λ (u : ℕ). u ∷ bs) (one c b) ∙ ap (λ (r : List ℕ). 1 ∷ r) (e .all);
+      is = ap (λ (u : ℕ). u ∷ bs) (one c b) ∙ ap (λ (r : List ℕ). 1 ∷ r) (e .is);
       told = e .told ∙ ap (λ (u : ℕ). cutNumber u ∷ a ∷ i ∷ []) s;
     }
 
@@ -87,9 +87,9 @@ counted a i (suc k) n (suc c ∷ bs) (b, bb) h =
 
 -- ---- a place, by the bits left
 -- bs are the last bits of the input
-record Last (bytes bs : List ℕ) : Type 0 where
-  before : List ℕ
-  parts : bitsOf bytes ≡ before ++ bs
+pub record Last (bytes bs : List ℕ) : Type 0 where
+  pub before : List ℕ
+  pub parts : bitsOf bytes ≡ before ++ bs
 
 bits-last : (u v : List ℕ) → AllBits (u ++ v) → AllBits v
 unfolding AllBits
@@ -98,16 +98,16 @@ bits-last (x ∷ u) v (b, bb) = bits-last u v bb
 
 -- the bits before it
 module _ {bytes bs : List ℕ} (z : Last bytes bs) where
-  abbrev p : ℕ
+  abbrev pub p : ℕ
   p = length bytes * 8 - length bs
 
   before-is : length (z .before) ≡ p
   before-is = omega (arith, length-bitsOf bytes, ap length (z .parts), length-append (z .before) bs)
 
-  place-in : PlaceIn bytes (placeOf p)
+  pub place-in : PlaceIn bytes (placeOf p)
   place-in = (omega arith, omega arith)
 
-  bits-on : bitsOn bytes (placeOf p) ≡ bs
+  pub bits-on : bitsOn bytes (placeOf p) ≡ bs
   bits-on =
       let e : p / 8 * 8 + p % 8 ≡ p = omega arith in
       ap (λ (u : ℕ). drop u (bitsOf bytes)) e ∙ ap (drop p) (z .parts) ∙ drop-at (z .before) bs p before-is
@@ -116,7 +116,7 @@ module _ {bytes bs : List ℕ} (z : Last bytes bs) where
   all-bits = bits-last (z .before) bs (subst AllBits (z .parts) (bits-of bytes))
 
 -- of a refused item: what its reader refused with, and the place
-item-of : {A : Type 0} (all : ℕ) (m : Reader A) (bs : List ℕ) {l : List ℕ} → item all m bs ≡ refused l
+pub item-of : {A : Type 0} (all : ℕ) (m : Reader A) (bs : List ℕ) {l : List ℕ} → item all m bs ≡ refused l
     → (k : List ℕ) × (m bs ≡ refused k) × (l ≡ with k (placeOf (all - length bs)))
 item-of {A} all m bs {l} h = go (m bs) h
   where
@@ -126,20 +126,20 @@ item-of {A} all m bs {l} h = go (m bs) h
     go (refused k) g = (k, refl, cc)
 
 -- two readers, one after the other, that refuse: the first, or the second after what the first read
-data Either {A B : Type 0} (r : Read A) (f : A → Reader B) (l : List ℕ) : Type 0 where
+pub data Either {A B : Type 0} (r : Read A) (f : A → Reader B) (l : List ℕ) : Type 0 where
   earlier : r ≡ refused l → Either r f l
   later : (x : A) (mid : List ℕ) → r ≡ read x mid → f x mid ≡ refused l → Either r f l
 
-either : {A B : Type 0} (r : Read A) (f : A → Reader B) {l : List ℕ} → andThen r f ≡ refused l → Either r f l
+pub either : {A B : Type 0} (r : Read A) (f : A → Reader B) {l : List ℕ} → andThen r f ≡ refused l → Either r f l
 either (read x mid) f h = later x mid refl h
 either (refused k) f {l} h = earlier (let e : k ≡ l = cc in ap (λ (u : List ℕ). refused u) e)
 
 -- ---- the items
 -- what follows a prefix of n ones, and what its bits stand for
-abbrev diffAs : ℕ → ℕ → Reader ℤ
+abbrev pub diffAs : ℕ → ℕ → Reader ℤ
 diffAs n = λ v. give (decoded (getD widths n 0) v)
 
-abbrev diffOf : ℕ → ℕ → ℕ → Reader ℤ
+abbrev pub diffOf : ℕ → ℕ → ℕ → Reader ℤ
 diffOf a i = λ n. _>>=_ (takeBits (getD widths n 0) (8 ∷ a ∷ i ∷ getD widths n 0 ∷ [])) (diffAs n)
 
 module _ (bytes bs : List ℕ) (z : Last bytes bs) where
@@ -186,7 +186,7 @@ module _ (bytes bs : List ℕ) (z : Last bytes bs) where
       go : (k : List ℕ) → l ≡ with k (placeOf (p z)) → Either (countOnes a i 4 0 bs) (diffOf a i) k → Stop bytes l
       go k e (earlier f) =
           let t = ones-ended a i 4 0 bs k (all-bits z) f in
-          ones-stop a i (t .ones) (t .few) (t .all) (t .told ∙ ap (λ (u : ℕ). cutNumber u ∷ a ∷ i ∷ []) (zero-add (t .ones))) e
+          ones-stop a i (t .ones) (t .few) (t .is) (t .told ∙ ap (λ (u : ℕ). cutNumber u ∷ a ∷ i ∷ []) (zero-add (t .ones))) e
       go k e (later n rest f g) =
           let t = counted a i 4 0 bs (all-bits z) f in
           let c : n ≡ t .ones = t .count ∙ zero-add (t .ones) in
@@ -195,9 +195,9 @@ module _ (bytes bs : List ℕ) (z : Last bytes bs) where
 
 -- ---- all readers of an image
 -- of the last bits of the input a reader takes some off the front, or refuses, and where it does so with one of 4 to 8 the input stops there
-record Halts {A : Type 0} (bytes : List ℕ) (m : Reader A) : Type 0 where
-  fronts : (bs left : List ℕ) (x : A) → Last bytes bs → m bs ≡ read x left → Last bytes left
-  halts : (bs l : List ℕ) → Last bytes bs → m bs ≡ refused l → TellsPlace l → Stop bytes l
+pub record Halts {A : Type 0} (bytes : List ℕ) (m : Reader A) : Type 0 where
+  pub fronts : (bs left : List ℕ) (x : A) → Last bytes bs → m bs ≡ read x left → Last bytes left
+  pub halts : (bs l : List ℕ) → Last bytes bs → m bs ≡ refused l → TellsPlace l → Stop bytes l
 
 -- bits off the front leave last bits
 off : {bytes bs left : List ℕ} (used : List ℕ) → Last bytes bs → bs ≡ used ++ left → Last bytes left
@@ -217,7 +217,7 @@ module _ (bytes : List ℕ) where
       go bs l z t (earlier g) = M .halts bs l z g t
       go bs l z t (later x mid g h) = F x .halts mid l (M .fronts bs mid x z g) h t
 
-  require-halts : (b : Bool) (l : List ℕ) → (TellsPlace l → ⊥) → Halts bytes (require b l)
+  pub require-halts : (b : Bool) (l : List ℕ) → (TellsPlace l → ⊥) → Halts bytes (require b l)
   require-halts true l n = give-halts tt
   require-halts false l n = record { fronts = λ bs left x z h. refused-not-read h; halts = λ bs k z h t. absurd (n (let e : l ≡ k = cc in subst TellsPlace (sym e) t)) }
 
@@ -226,7 +226,7 @@ module _ (bytes : List ℕ) where
   taken T n bs left x z h = let t = T .takes n bs left x h in off (t .used) z (t .front)
 
   -- bits that no item has
-  plain-halts : (n : ℕ) (k : List ℕ) → (TellsPlace k → ⊥) → Halts bytes (takeBits n k)
+  pub plain-halts : (n : ℕ) (k : List ℕ) → (TellsPlace k → ⊥) → Halts bytes (takeBits n k)
   plain-halts n k other = record {
     fronts = taken (bits-takes Any any-grow n k) 0;
     halts = λ bs l z h t. absurd (other (subst TellsPlace (short-of n k bs h .0) t));
@@ -240,7 +240,7 @@ module _ (bytes : List ℕ) where
   codes-halt a zero i = give-halts []
   codes-halt a (suc k) i = then-halts (code-halts a i) (λ d. then-halts (codes-halt a k (i + 1)) (λ ds. give-halts (d ∷ ds)))
 
-  values-halt : (a n : ℕ) → Halts bytes (readValues (length bytes * 8) a n)
+  pub values-halt : (a n : ℕ) → Halts bytes (readValues (length bytes * 8) a n)
   unfolding readValues
   values-halt a zero = give-halts []
   values-halt a (suc k) = then-halts first (λ v. then-halts (codes-halt a k 1) (λ ds. give-halts _))
@@ -248,21 +248,21 @@ module _ (bytes : List ℕ) where
       first : Halts bytes (item (length bytes * 8) (takeBits 64 (5 ∷ a ∷ [])))
       first = record { fronts = taken (item-takes Any any-grow (bits-takes Any any-grow 64 (5 ∷ a ∷ []))) (length bytes * 8); halts = λ bs l z h t. first-stops bytes bs z a l h }
 
+  pub count-halts : (a : ℕ) → Halts bytes (item (length bytes * 8) (takeBits 32 (4 ∷ a ∷ [])))
+  count-halts a = record { fronts = taken (item-takes Any any-grow (bits-takes Any any-grow 32 (4 ∷ a ∷ []))) (length bytes * 8); halts = λ bs l z h t. count-stops bytes bs z a l h }
+
   array-halts : (a : ℕ) (room : ℕ → Bool) → Halts bytes (readArray (length bytes * 8) a room)
   unfolding readArray
-  array-halts a room = then-halts count (λ n. then-halts (require-halts (room n) (10 ∷ a ∷ []) (λ t. omega (arith, t))) (λ u. values-halt a n))
-    where
-      count : Halts bytes (item (length bytes * 8) (takeBits 32 (4 ∷ a ∷ [])))
-      count = record { fronts = taken (item-takes Any any-grow (bits-takes Any any-grow 32 (4 ∷ a ∷ []))) (length bytes * 8); halts = λ bs l z h t. count-stops bytes bs z a l h }
+  array-halts a room = then-halts (count-halts a) (λ n. then-halts (require-halts (room n) (10 ∷ a ∷ []) (λ t. omega (arith, t))) (λ u. values-halt a n))
 
-  header-halts : Halts bytes (leCount (3 ∷ []))
+  pub header-halts : Halts bytes (leCount (3 ∷ []))
   unfolding leCount
   header-halts = then-halts byte (λ a. then-halts byte (λ b. then-halts byte (λ c. then-halts byte (λ d. give-halts _))))
     where
       byte : Halts bytes (takeBits 8 (3 ∷ []))
       byte = plain-halts 8 (3 ∷ []) (λ t. omega (arith, t))
 
-  part-halts : (a : ℕ) (room : ℕ → Bool) (n : ℕ) → Halts bytes (readPart (length bytes * 8) a room n)
+  pub part-halts : (a : ℕ) (room : ℕ → Bool) (n : ℕ) → Halts bytes (readPart (length bytes * 8) a room n)
   unfolding readPart
   part-halts a room n =
       then-halts (array-halts a room) (λ xs. then-halts (require-halts (eqb (length xs) n) (9 ∷ a ∷ []) (λ t. omega (arith, t))) (λ u. then-halts aligned (λ v. give-halts xs)))

@@ -1,11 +1,10 @@
 -- No second outcome fits: answers of which the same is told are the same. The table's refusals have the numbers 11 to 17, the
 -- reader's those up to 10. Assumes nothing.
-use Prim.Native.Nat.{ℕ, _≤_, _<_}
+use Prim.Native.Nat.{ℕ, _≤_}
 use mathlib.Core.Path.{_≡_, sym, ap, _∙_}
 use mathlib.Core.List.{List}
 use native.Mathlib.Omega.{arith}
 use lib.IntN.{ℤ}
-use Rattle.told.specs.Told.{Told, refused}
 use Rattle.told.specs.Over.{filled}
 use Rattle.gorilla.specs.Reading.{pairsRead}
 use Rattle.told.proofs.Unique.{given-not-refused, same-list, same-gift}

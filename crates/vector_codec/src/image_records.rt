@@ -17,7 +17,7 @@ fn length_so(bytes: &[u8], code: usize, b: &[u8], at: usize) -> bool {
 }
 
 // Whether it is refused with a code, or has the pairs that follow its length there.
-fn pairs_so(bytes: &[u8], code: usize, b: &[u8], at: usize) -> bool {
+fn decoded_so(bytes: &[u8], code: usize, b: &[u8], at: usize) -> bool {
     if code != 0 {
         return outcome::unread_so(bytes, code, b, at);
     }
@@ -32,9 +32,13 @@ pub fn image(b: &[u8], tally: &mut [u64; tally::PLACES]) {
     let over = u8_at(b, 2);
     if over == 0 {
         tally::note(tally, tally::LENGTHS, agreed);
-        tally::note(tally, tally::DECODINGS, pairs_so(bytes, code, b, 5 + size));
+        tally::note(
+            tally,
+            tally::DECODINGS,
+            decoded_so(bytes, code, b, 5 + size),
+        );
     } else {
-        // the list reader refuses with 10 and the array, which the Rust does not know
+        // the list reader refuses with 10 and the array, which the Rust does not know; 10 tells no place, and none is looked for
         let many = outcome::unread_so(bytes, 10 + 256 * (over - 1), b, 0);
         tally::note(tally, tally::LENGTHS, agreed & many);
     }

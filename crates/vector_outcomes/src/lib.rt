@@ -13,7 +13,7 @@ use vector_bytes::u16_at;
 use vector_bytes::u32_at;
 use vector_bytes::wide;
 
-fn number_of(array: Array) -> u8 {
+fn array_no(array: Array) -> u8 {
     match array {
         Array::Sequences => 0,
         Array::Seconds => 1,
@@ -26,18 +26,18 @@ fn code_of(why: Refusal) -> usize {
         Refusal::Version(byte) => 2 + 256 * wide(byte),
         Refusal::Header => 3,
         Refusal::CountCut(_, _) => 4,
-        Refusal::TooMany(array) => 10 + 256 * wide(number_of(array)),
+        Refusal::TooMany(array) => 10 + 256 * wide(array_no(array)),
         Refusal::FirstCut(_, _) => 5,
         Refusal::CodeEnd(_, _, _) => 6,
         Refusal::PrefixCut(_, _, _) => 7,
         Refusal::DiffCut(_, _, width, _) => 8 + 256 * wide(width),
-        Refusal::CountDiffers(array) => 9 + 256 * wide(number_of(array)),
+        Refusal::CountDiffers(array) => 9 + 256 * wide(array_no(array)),
     }
 }
 
 // Whether the bytes stop in an array, at an index and a place that stand in a body from `at` on.
 fn stops_so(b: &[u8], at: usize, array: Array, index: usize, place: Place) -> bool {
-    let item = (u8_at(b, at) == wide(number_of(array))) & (u32_at(b, after(at, 1)) == index);
+    let item = (u8_at(b, at) == wide(array_no(array))) & (u32_at(b, after(at, 1)) == index);
     let byte = place.byte;
     let bit = wide(place.bit);
     item & (u16_at(b, after(at, 5)) == byte) & (u8_at(b, after(at, 7)) == bit)

@@ -8,7 +8,7 @@ use lib.ListN.{length, replicate}
 use mir.Syntax.{w64}
 use mir.Val.{SFits}
 use mir.Facts.{toZ-ofZ}
-use Rattle.gorilla.specs.Parser.{Read, read}
+use Rattle.gorilla.specs.Parser.{Read}
 use Rattle.bits.specs.Inner.{bitsFrom}
 use Rattle.gorilla.specs.Reading.{readCode}
 use Rattle.code_reader.specs.Inner.{ReadsCode}
