@@ -13,7 +13,7 @@ pub const CASES: &[Case] = &[
     ("a list's refusal says what is kept", sentences),
     ("a list's refusal has its number and its source", why),
     ("a list's refusal becomes an error by ?", as_error),
-    ("an error becomes a list's refusal by ?, with no place", apart),
+    ("an error becomes a list's refusal by ?, with no position", apart),
 ];
 
 fn as_one_by_one() {
