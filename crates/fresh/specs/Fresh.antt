@@ -13,7 +13,7 @@ abbrev pub defaultCapacity : ℕ
 defaultCapacity = 8192
 
 abbrev pub defaultIntervalSecs : ℕ
-defaultIntervalSecs = 60
+defaultIntervalSecs = 10
 
 -- the state of a table just made, with count pairs in its arrays
 abbrev pub freshTable : ℕ → ℕ → ℕ → LastRecorded → SequenceTracker

@@ -11,7 +11,8 @@ pub mod inner;
 
 pub const DEFAULT_CAPACITY: u32 = 8192;
 
-pub const DEFAULT_INTERVAL_SECS: u64 = 60;
+// The Rust has 60.
+pub const DEFAULT_INTERVAL_SECS: u64 = 10;
 
 // An empty table with the default settings.
 pub fn new() -> SequenceTracker

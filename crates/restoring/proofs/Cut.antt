@@ -12,21 +12,24 @@ use Rattle.gorilla.specs.Parser as parser
 use Rattle.gorilla.specs.Reading.{Pairs}
 use Rattle.gorilla.specs.Stops.{CutOff}
 use Rattle.gorilla.proofs.Cuts.{cut-refused}
+use Rattle.limits.specs.Settings.{badSettings}
+use Rattle.fresh.specs.Fresh.{defaultCapacity}
 use Rattle.decoder.specs.Decode.{imageLenRule}
 use Rattle.decoder.proofs.Cut.{cut-as, told-len}
 use Rattle.restoring.specs.Restore.{readTable, judged}
 use Rattle.restoring.specs.Cut.{RestoreTellsWhere}
 
 pub restore-tells-where : RestoreTellsWhere
-restore-tells-where bytes seqs secs t h = go (ltb (length seqs) 8192 || ltb (length secs) 8192) h
+restore-tells-where interval bytes seqs secs t h = go (badSettings defaultCapacity interval) (ltb (length seqs) 8192 || ltb (length secs) 8192) h
   where
-    read-then : (r : Read Pairs) → readTable bytes ≡ r → judged r ≡ gave t
-        → (n : ℕ) × (imageLenRule bytes ≡ gave n) × ((k : ℕ) → k < n → CutOff (take k bytes) (λ l. judged (readTable (take k bytes)) ≡ refused l))
+    read-then : (r : Read Pairs) → readTable bytes ≡ r → judged interval r ≡ gave t
+        → (n : ℕ) × (imageLenRule bytes ≡ gave n) × ((k : ℕ) → k < n → CutOff (take k bytes) (λ l. judged interval (readTable (take k bytes)) ≡ refused l))
     read-then (read p left) f g =
-        (length bytes - length left / 8, told-len (λ m. leb m 8192) bytes left p f, λ k o. cut-as (take k bytes) (λ l r. ap judged r) (cut-refused (λ m. leb m 8192) bytes left p k f o))
+        (length bytes - length left / 8, told-len (λ m. leb m 8192) bytes left p f, λ k o. cut-as (take k bytes) (λ l r. ap (judged interval) r) (cut-refused (λ m. leb m 8192) bytes left p k f o))
     read-then (parser.refused l) f g = given-not-refused (sym g)
 
-    go : (b : Bool) → cond b (refused (14 ∷ [])) (judged (readTable bytes)) ≡ gave t
-        → (n : ℕ) × (imageLenRule bytes ≡ gave n) × ((k : ℕ) → k < n → CutOff (take k bytes) (λ l. cond b (refused (14 ∷ [])) (judged (readTable (take k bytes))) ≡ refused l))
-    go true g = given-not-refused (sym g)
-    go false g = read-then (readTable bytes) refl g
+    go : (b s : Bool) → cond b (refused (15 ∷ [])) (cond s (refused (14 ∷ [])) (judged interval (readTable bytes))) ≡ gave t
+        → (n : ℕ) × (imageLenRule bytes ≡ gave n) × ((k : ℕ) → k < n → CutOff (take k bytes) (λ l. cond b (refused (15 ∷ [])) (cond s (refused (14 ∷ [])) (judged interval (readTable (take k bytes)))) ≡ refused l))
+    go true s g = given-not-refused (sym g)
+    go false true g = given-not-refused (sym g)
+    go false false g = read-then (readTable bytes) refl g

@@ -1,3 +1,4 @@
 pub mod Loading
 pub mod Unique
 pub mod Cut
+pub mod Interval

@@ -15,7 +15,8 @@ use Rattle.gorilla.specs.Parser.{Read, read}
 use Rattle.gorilla.specs.Parser as parser
 use Rattle.gorilla.specs.Reading.{Pairs, pairsRead}
 use Rattle.gorilla.proofs.Counts.{image-counts}
-use Rattle.fresh.specs.Fresh.{freshTable}
+use Rattle.limits.specs.Settings.{badSettings}
+use Rattle.fresh.specs.Fresh.{defaultCapacity, freshTable}
 use Rattle.tracker.specs.declared.SequenceTracker.{SequenceTracker}
 use Rattle.tracker.specs.declared.LastRecorded.{LastRecorded}
 use Rattle.tracker.specs.declared.LastRecorded.the-variants.{Never, At}
@@ -24,7 +25,7 @@ use Rattle.decoder.specs.Decode.{listed, countOf, decodeRule}
 use Rattle.decoder.proofs.Stored as stored
 use Rattle.decoder.specs.Decode as decode
 use Rattle.settling.specs.Settle.{lastOf, settledOf}
-use Rattle.restoring.specs.Restore.{readTable, judged, restoreOf}
+use Rattle.restoring.specs.Restore.{readTable, judged, restoreAt}
 
 -- what was read into arrays xs and ys, of which n places are values now
 pub record Loaded (bytes xs : List ℕ) (ys : List ℤ) (n : ℕ) : Type 0 where
@@ -33,7 +34,7 @@ pub record Loaded (bytes xs : List ℕ) (ys : List ℤ) (n : ℕ) : Type 0 where
   pub room-secs : n ≤ length ys
   pub seqs : take n xs ≡ pairsRead (readTable bytes) .seqs
   pub secs : take n ys ≡ pairsRead (readTable bytes) .secs
-  pub judge : settledOf xs ys n ≡ judged (readTable bytes)
+  pub judge : (interval : ℕ) → settledOf interval xs ys n ≡ judged interval (readTable bytes)
 
 -- an array that is filled by what is told stays so for what restore tells
 pub into : {A : Type 0} (w w′ : Told SequenceTracker) (x v v′ old : List A) → x ≡ filled w v old → v ≡ v′ → w′ ≡ w → x ≡ filled w′ v′ old
@@ -54,13 +55,13 @@ same-last xs ys n e = go (eqb n 0) refl
 
 -- pairs p over whatever the arrays held
 module _ (old-seqs : List ℕ) (old-secs : List ℤ) (p : Pairs) (n : ℕ) (a : length (p .seqs) ≡ n) (b : length (p .secs) ≡ n) where
-  settled-is : settledOf (over (p .seqs) old-seqs) (over (p .secs) old-secs) n ≡ settledOf (p .seqs) (p .secs) (length (p .seqs))
-  settled-is =
+  settled-is : (interval : ℕ) → settledOf interval (over (p .seqs) old-seqs) (over (p .secs) old-secs) n ≡ settledOf interval (p .seqs) (p .secs) (length (p .seqs))
+  settled-is interval =
       let s : take n (over (p .seqs) old-seqs) ≡ take n (p .seqs) = take-at (p .seqs) _ n a ∙ sym (take-all n (p .seqs) (omega arith)) in
       let t : take n (over (p .secs) old-secs) ≡ take n (p .secs) = take-at (p .secs) _ n b ∙ sym (take-all n (p .secs) (omega arith)) in
-      ap₂ (λ (r : Told (Unit {0})) (l : LastRecorded). ifGood r (gave (freshTable 8192 60 n l)))
+      ap₂ (λ (r : Told (Unit {0})) (l : LastRecorded). ifGood r (gave (freshTable 8192 interval n l)))
       (pairs-kept n (over (p .seqs) old-seqs) (p .seqs) (over (p .secs) old-secs) (p .secs) s t) (same-last (over (p .secs) old-secs) (p .secs) n t)
-      ∙ ap (settledOf (p .seqs) (p .secs)) (sym a)
+      ∙ ap (settledOf interval (p .seqs) (p .secs)) (sym a)
 
 module _ (bytes S : List ℕ) (T : List ℤ) (hs : length S ≡ 8192) (ht : length T ≡ 8192) where
   listed-is : listed bytes S T ≡ readTable bytes
@@ -85,7 +86,7 @@ module _ (bytes S : List ℕ) (T : List ℤ) (hs : length S ≡ 8192) (ht : leng
             few = omega (arith, leb-true (length (p .secs)) 8192 (counts .1));
             seqs = ap (take n) s ∙ take-at (p .seqs) _ n a ∙ ap (λ (r : Read Pairs). pairsRead r .seqs) (sym e);
             secs = ap (take n) t ∙ take-at (p .secs) _ n b ∙ ap (λ (r : Read Pairs). pairsRead r .secs) (sym e);
-            judge = ap₂ (λ (x : List ℕ) (y : List ℤ). settledOf x y n) s t ∙ settled-is S T p n a b ∙ ap judged (sym e);
+            judge = λ interval. ap₂ (λ (x : List ℕ) (y : List ℤ). settledOf interval x y n) s t ∙ settled-is S T p n a b interval ∙ ap (judged interval) (sym e);
           }
       go (parser.refused l) e h f k =
           let c : _≡_ {A = Told ℕ} (gave n) (refused l) = h ∙ ap countOf e in
@@ -93,10 +94,10 @@ module _ (bytes S : List ℕ) (T : List ℤ) (hs : length S ≡ 8192) (ht : leng
           absurd (omega arith)
 
   -- the reader's refusal is restore's
-  pub unread : {what : List ℕ} → refused what ≡ decodeRule bytes S T → refused what ≡ judged (readTable bytes)
-  unread {what} h = go (readTable bytes) refl (h ∙ ap countOf listed-is)
+  pub unread : {what : List ℕ} (interval : ℕ) → refused what ≡ decodeRule bytes S T → refused what ≡ judged interval (readTable bytes)
+  unread {what} interval h = go (readTable bytes) refl (h ∙ ap countOf listed-is)
     where
-      go : (r : Read Pairs) → readTable bytes ≡ r → refused what ≡ countOf (readTable bytes) → refused what ≡ judged (readTable bytes)
+      go : (r : Read Pairs) → readTable bytes ≡ r → refused what ≡ countOf (readTable bytes) → refused what ≡ judged interval (readTable bytes)
       go (read p left) e k =
           let c : _≡_ {A = Told ℕ} (refused what) (gave (length (p .secs))) = k ∙ ap countOf e in
           let z : _≡_ {A = ℕ} 0 1 = cc in
@@ -104,15 +105,19 @@ module _ (bytes S : List ℕ) (T : List ℤ) (hs : length S ≡ 8192) (ht : leng
       go (parser.refused l) e k =
           let c : _≡_ {A = Told ℕ} (refused what) (refused l) = k ∙ ap countOf e in
           let d : what ≡ l = cc in
-          ap refused d ∙ ap judged (sym e)
+          ap refused d ∙ ap (judged interval) (sym e)
 
--- ---- the rule, by the lengths of the lent arrays
-module _ (bytes xs : List ℕ) (ys : List ℤ) where
-  pub short-seqs : length xs < 8192 → refused (14 ∷ []) ≡ restoreOf bytes xs ys
-  short-seqs h = rw (lt-ltb (length xs) 8192 h)
+-- ---- the rule, by the interval and by the lengths of the lent arrays
+module _ (interval : ℕ) (bytes xs : List ℕ) (ys : List ℤ) where
+  pub bad-interval : badSettings defaultCapacity interval ≡ true → refused (15 ∷ []) ≡ restoreAt interval bytes xs ys
+  bad-interval b = rw b
 
-  pub short-secs : 8192 ≤ length xs → length ys < 8192 → refused (14 ∷ []) ≡ restoreOf bytes xs ys
-  short-secs g h = rw (le-ltb (length xs) 8192 g, lt-ltb (length ys) 8192 h)
+  module _ (v : badSettings defaultCapacity interval ≡ false) where
+    pub short-seqs : length xs < 8192 → refused (14 ∷ []) ≡ restoreAt interval bytes xs ys
+    short-seqs h = rw (v, lt-ltb (length xs) 8192 h)
 
-  pub long : 8192 ≤ length xs → 8192 ≤ length ys → judged (readTable bytes) ≡ restoreOf bytes xs ys
-  long g h = rw (le-ltb (length xs) 8192 g, le-ltb (length ys) 8192 h)
+    pub short-secs : 8192 ≤ length xs → length ys < 8192 → refused (14 ∷ []) ≡ restoreAt interval bytes xs ys
+    short-secs g h = rw (v, le-ltb (length xs) 8192 g, lt-ltb (length ys) 8192 h)
+
+    pub long : 8192 ≤ length xs → 8192 ≤ length ys → judged interval (readTable bytes) ≡ restoreAt interval bytes xs ys
+    long g h = rw (v, le-ltb (length xs) 8192 g, le-ltb (length ys) 8192 h)

@@ -14,7 +14,7 @@ use Rattle.code_reader.specs.Refusal as reader
 use Rattle.code_reader.specs.declared.Refusal as dec
 use Rattle.code_reader.specs.declared.Refusal.the-variants as dv
 use Rattle.code_reader.proofs.Unique.{one-refusal}
-use Rattle.restoring.specs.Restore.{toldRestore, readTable, Restores}
+use Rattle.restoring.specs.Restore.{toldRestore, readTable, RestoresAt}
 use Rattle.restoring.specs.declared.Restored.{Restored}
 use Rattle.restoring.specs.declared.Restored.the-variants as rv
 
@@ -41,9 +41,9 @@ restore-told (rv.NotDecoded r) (rv.Table u) h = given-not-refused (sym h)
 restore-told (rv.NotDecoded r) (rv.Refused q) h = apart (reader.told r) (told q) (omega (arith, table-number q .0, reader-number r)) h
 restore-told (rv.NotDecoded r) (rv.NotDecoded q) h = ap rv.NotDecoded (one-refusal r q (same-list h))
 
-pub one-restore : (bytes seqs : List ℕ) (secs : List ℤ) (a b : Restored) (x x′ : List ℕ) (y y′ : List ℤ)
-    → Restores bytes seqs secs a x y → Restores bytes seqs secs b x′ y′ → (a ≡ b) × (x ≡ x′) × (y ≡ y′)
-one-restore bytes seqs secs a b x x′ y y′ f g =
+pub one-restore : (interval : ℕ) (bytes seqs : List ℕ) (secs : List ℤ) (a b : Restored) (x x′ : List ℕ) (y y′ : List ℤ)
+    → RestoresAt interval bytes seqs secs a x y → RestoresAt interval bytes seqs secs b x′ y′ → (a ≡ b) × (x ≡ x′) × (y ≡ y′)
+one-restore interval bytes seqs secs a b x x′ y y′ f g =
     let e : a ≡ b = restore-told a b (f .0 ∙ sym (g .0)) in (
       e,
       f .1 ∙ ap (λ (r : Restored). filled (toldRestore r) (pairsRead (readTable bytes) .seqs) seqs) e ∙ sym (g .1),

@@ -1,2 +1,3 @@
 pub mod Restore
 pub mod Cut
+pub mod Interval

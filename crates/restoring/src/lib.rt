@@ -1,7 +1,7 @@
-// A table restored from an image, at the default settings.
+// A table restored from an image, at the default capacity, and at the default interval or at one that is named: an image has neither.
 ghost use mathlib.Core.Path.{_≡_};
 ghost use Rattle.tracker.specs.Refusal.{toldMade};
-ghost use Rattle.restoring.specs.Restore.{toldRestore, Restores};
+ghost use Rattle.restoring.specs.Restore.{toldRestore, Restores, RestoresAt};
 use decoder::Decoded;
 use tracker::Made;
 use tracker::Refusal;
@@ -25,11 +25,26 @@ fn of_made(made: Made) -> Restored
     }
 }
 
-// Rules 11 to 13 are judged before a lent place changes, so the pairs are read into arrays of the call's own: 128 KB of
-// stack, and a copy, which cost less than a second pass over the codes.
+// The Rust's `from_bytes`, whose tables have the interval 60.
 pub fn restore(bytes: &[u8], seqs: &mut [u64], secs: &mut [i64]) -> Restored
     ensures { λ r. ⌜ Restores (now (bytes .entry)) (now (seqs .entry)) (now (secs .entry)) r (now (seqs .exit)) (now (secs .exit)) ⌝ }
 {
+    restore_with_interval(bytes, seqs, secs, fresh::DEFAULT_INTERVAL_SECS)
+}
+
+// Rules 11 to 13 are judged before a lent place changes, so the pairs are read into arrays of the call's own: 128 KB of
+// stack, and a copy, which cost less than a second pass over the codes.
+pub fn restore_with_interval(
+    bytes: &[u8],
+    seqs: &mut [u64],
+    secs: &mut [i64],
+    interval_secs: u64,
+) -> Restored
+    ensures { λ r. ⌜ RestoresAt «interval_secs» (now (bytes .entry)) (now (seqs .entry)) (now (secs .entry)) r (now (seqs .exit)) (now (secs .exit)) ⌝ }
+{
+    if limits::inner::bad_settings(fresh::DEFAULT_CAPACITY, interval_secs) {
+        return Restored::Refused(Refusal::Settings);
+    }
     if seqs.len() < 8192 {
         return Restored::Refused(Refusal::Disagrees);
     }
@@ -40,7 +55,7 @@ pub fn restore(bytes: &[u8], seqs: &mut [u64], secs: &mut [i64]) -> Restored
     let mut own_secs = [0i64; 8192];
     match decoder::decode(bytes, &mut own_seqs, &mut own_secs) {
         Decoded::Count(n) => {
-            of_made(settling::inner::settle(seqs, secs, &own_seqs, &own_secs, n))
+            of_made(settling::inner::settle(seqs, secs, &own_seqs, &own_secs, n, interval_secs))
         }
         Decoded::Refused(why) => Restored::NotDecoded(why),
     }

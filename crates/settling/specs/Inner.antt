@@ -15,9 +15,9 @@ abbrev pub countIfGood : Told (Unit {0}) → ℕ → ℕ
 countIfGood (gave _) n = n
 countIfGood (refused what) n = 0
 
--- n pairs that stand in read-seqs and read-secs settle in lent arrays: the answer, and the arrays afterwards
-abbrev pub Settles : ℕ → List ℕ → List ℤ → List ℕ → List ℤ → Made → List ℕ → List ℤ → Type 0
-Settles n read-seqs read-secs seqs secs r seqs′ secs′ =
-    (toldMade r ≡ settledOf read-seqs read-secs n)
+-- n pairs that stand in read-seqs and read-secs settle in lent arrays, as a table of this interval: the answer, and the arrays afterwards
+abbrev pub Settles : ℕ → ℕ → List ℕ → List ℤ → List ℕ → List ℤ → Made → List ℕ → List ℤ → Type 0
+Settles interval n read-seqs read-secs seqs secs r seqs′ secs′ =
+    (toldMade r ≡ settledOf interval read-seqs read-secs n)
     × (seqs′ ≡ filled (toldMade r) (take n read-seqs) seqs)
     × (secs′ ≡ filled (toldMade r) (take n read-secs) secs)

@@ -64,9 +64,10 @@ pub fn settle(
     own_seqs: &[u64],
     own_secs: &[i64],
     n: usize,
+    interval_secs: u64,
 ) -> Made
     requires { ⌜ (n ≤ 8192) × (n ≤ length (now «own_seqs»)) × (n ≤ length (now «own_secs»)) × (n ≤ length (now seqs)) × (n ≤ length (now secs)) ⌝ }
-    ensures { λ r. ⌜ Settles n (now («own_seqs» .entry)) (now («own_secs» .entry)) (now (seqs .entry)) (now (secs .entry)) r (now (seqs .exit)) (now (secs .exit)) ⌝ }
+    ensures { λ r. ⌜ Settles «interval_secs» n (now («own_seqs» .entry)) (now («own_secs» .entry)) (now (seqs .entry)) (now (secs .entry)) r (now (seqs .exit)) (now (secs .exit)) ⌝ }
 {
     let checked = inner::pairs(own_seqs, own_secs, n);
     let stored = if_good(checked, n);
@@ -75,12 +76,7 @@ pub fn settle(
     match checked {
         Checked::Good => {
             let last = last_of(own_secs, n);
-            Made::Table(fresh::inner::fresh(
-                fresh::DEFAULT_CAPACITY,
-                fresh::DEFAULT_INTERVAL_SECS,
-                n,
-                last,
-            ))
+            Made::Table(fresh::inner::fresh(fresh::DEFAULT_CAPACITY, interval_secs, n, last))
         }
         Checked::Refused(why) => Made::Refused(why),
     }

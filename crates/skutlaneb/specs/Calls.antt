@@ -13,7 +13,7 @@ use Rattle.log.specs.Pairs.{pairsLogOf, extendOf}
 use Rattle.gorilla.specs.Format.{imageBytes}
 use Rattle.gorilla.specs.Reading.{pairsRead}
 use Rattle.saving.specs.Save.{keptImage}
-use Rattle.restoring.specs.Restore.{readTable, restoreOf}
+use Rattle.restoring.specs.Restore.{readTable}
 use Rattle.answers.specs.Answer.{ofCount}
 use Rattle.answers.specs.declared.Answer.{Answer}
 use Rattle.states.specs.State.{tableOf}
@@ -31,11 +31,12 @@ SkutSaves rule s seqs secs out r out′ =
     (r ≡ ofCount (rule (tableOf s) seqs secs (length out)))
     × (out′ ≡ filled (rule (tableOf s) seqs secs (length out)) (keptImage (tableOf s) seqs secs) out)
 
-abbrev pub SkutRestores : List ℕ → List ℕ → List ℤ → TableAnswer → List ℕ → List ℤ → Type 0
-SkutRestores bytes seqs secs r seqs′ secs′ =
-    (r ≡ ofTable (restoreOf bytes seqs secs))
-    × (seqs′ ≡ filled (restoreOf bytes seqs secs) (pairsRead (readTable bytes) .seqs) seqs)
-    × (secs′ ≡ filled (restoreOf bytes seqs secs) (pairsRead (readTable bytes) .secs) secs)
+-- a restore by its rule
+abbrev pub SkutRestores : (List ℕ → List ℕ → List ℤ → Told SequenceTracker) → List ℕ → List ℕ → List ℤ → TableAnswer → List ℕ → List ℤ → Type 0
+SkutRestores rule bytes seqs secs r seqs′ secs′ =
+    (r ≡ ofTable (rule bytes seqs secs))
+    × (seqs′ ≡ filled (rule bytes seqs secs) (pairsRead (readTable bytes) .seqs) seqs)
+    × (secs′ ≡ filled (rule bytes seqs secs) (pairsRead (readTable bytes) .secs) secs)
 
 -- a call on a table, as it crosses: `of` makes the answer of what is told
 abbrev pub Crosses : {A : Type 0} → (A → TableAnswer) → Left A → TableAnswer → List ℕ → List ℤ → Type 0

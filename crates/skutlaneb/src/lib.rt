@@ -1,8 +1,8 @@
 // The public calls for programs in other languages: a static library of plain functions, built by `rt staticlib skutlaneb`.
 //
 // Numbers, slices and structs of numbers cross; a slice is a pointer and a length. No call has a `requires`: any numbers
-// are taken, and what they do not make is refused by a number of docs/RULES.md. No call allocates. `skut_restore` takes 128 KB
-// of stack for arrays of its own; no other call keeps an array on the stack.
+// are taken, and what they do not make is refused by a number of docs/RULES.md. No call allocates. The two restores take 128 KB
+// of stack for arrays of their own; no other call keeps an array on the stack.
 pub mod bit_calls; // bit_calls.rt: bits in and out, sign extension
 pub mod image_calls; // image_calls.rt: images of arrays
 pub mod layout; // layout.rt: which layout the structs have

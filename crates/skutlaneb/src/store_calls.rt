@@ -1,5 +1,6 @@
 // A table saved as an image, and restored from one.
 ghost use Rattle.saving.specs.Save.{saveOf, saveStrictOf};
+ghost use Rattle.restoring.specs.Restore.{restoreOf, restoreAt};
 ghost use Rattle.skutlaneb.specs.Calls.{SkutSaves, SkutRestores};
 use answers::Answer;
 use call_answers::inner as calls;
@@ -30,10 +31,23 @@ pub extern "C" fn skut_save_strict(
     calls::of_saved(saving::save_strict(table, seqs, secs, out))
 }
 
-// Needs 130 KB of stack: two arrays of 8,192 are its own.
+// The table has the default settings. Needs 130 KB of stack: two arrays of 8,192 are its own.
 #[no_mangle]
 pub extern "C" fn skut_restore(bytes: &[u8], seqs: &mut [u64], secs: &mut [i64]) -> TableAnswer
-    ensures { λ r. ⌜ SkutRestores (now (bytes .entry)) (now (seqs .entry)) (now (secs .entry)) r (now (seqs .exit)) (now (secs .exit)) ⌝ }
+    ensures { λ r. ⌜ SkutRestores restoreOf (now (bytes .entry)) (now (seqs .entry)) (now (secs .entry)) r (now (seqs .exit)) (now (secs .exit)) ⌝ }
 {
     tables::of_restored(restoring::restore(bytes, seqs, secs))
+}
+
+// The same with the interval that is named. Needs as much stack.
+#[no_mangle]
+pub extern "C" fn skut_restore_with_interval(
+    bytes: &[u8],
+    seqs: &mut [u64],
+    secs: &mut [i64],
+    interval_secs: u64,
+) -> TableAnswer
+    ensures { λ r. ⌜ SkutRestores (restoreAt «interval_secs») (now (bytes .entry)) (now (seqs .entry)) (now (secs .entry)) r (now (seqs .exit)) (now (secs .exit)) ⌝ }
+{
+    tables::of_restored(restoring::restore_with_interval(bytes, seqs, secs, interval_secs))
 }

@@ -23,34 +23,34 @@ use Rattle.theorems.specs.Run.{Reload, Lent, keptIn, imageFor, strictTo,
 use Rattle.theorems.proofs.Sound.{Sound}
 use Rattle.theorems.proofs.Reload.{kept-fit, seqs-long, at-most, save-is, wrote}
 
-module _ (w : Table) (S : Sound w) (l : Reload) (lent : Lent (l .seqs) (l .secs)) (room : length (imageFor w) ≤ length (l .out)) where
+module _ (interval : ℕ) (w : Table) (S : Sound interval w) (l : Reload) (lent : Lent (l .seqs) (l .secs)) (room : length (imageFor w) ≤ length (l .out)) where
   plain-is : saveTo w (l .out) ≡ gave (length (imageFor w))
   unfolding roomRule
   plain-is = rw (S .good) (rw (le-ltb (length (l .out)) (length (imageFor w)) room))
 
   strict-is : strictTo w (l .out) ≡ ifGood (wideOf (keptIn w .seqs) (keptIn w .secs)) (gave (length (imageFor w)))
   unfolding roomRule
-  strict-is = save-is w S (l .out) ∙ rw (le-ltb (length (l .out)) (length (imageFor w)) room)
+  strict-is = save-is interval w S (l .out) ∙ rw (le-ltb (length (l .out)) (length (imageFor w)) room)
 
   comes-back : listedFor w l ≡ read (receivedPairs (keptIn w)) (bitsOf (l .following))
   unfolding listed
   comes-back =
       rw (plain-is, take-at (imageFor w) (drop (length (imageFor w)) (l .out)) (length (imageFor w)) refl)
-      (reads (keptIn w) (λ k. leb k (min (length (l .seqs)) (length (l .secs)))) (l .following) (kept-fit w S)
-      (le-leb (length (keptIn w .seqs)) (min (length (l .seqs)) (length (l .secs))) (omega (arith, seqs-long w S, at-most w S, lent .0, lent .1))))
+      (reads (keptIn w) (λ k. leb k (min (length (l .seqs)) (length (l .secs)))) (l .following) (kept-fit interval w S)
+      (le-leb (length (keptIn w .seqs)) (min (length (l .seqs)) (length (l .secs))) (omega (arith, seqs-long interval w S, at-most interval w S, lent .0, lent .1))))
 
   -- what reads back is the kept pairs exactly where no difference is wide
   same-back : (p : Pairs) → listedFor w l ≡ read p (bitsOf (l .following)) → (p ≡ keptIn w) ↔ (wideOf (keptIn w .seqs) (keptIn w .secs) ≡ gave tt)
   same-back p e =
       let k : read p (bitsOf (l .following)) ≡ read (receivedPairs (keptIn w)) (bitsOf (l .following)) = sym e ∙ comes-back in
       let j : p ≡ receivedPairs (keptIn w) = cc in
-      let x = exact (keptIn w) (kept-fit w S) in
+      let x = exact (keptIn w) (kept-fit interval w S) in
       (λ h. x .1 (sym j ∙ h), λ h. j ∙ x .0 h)
 
   pub refuses : ((what : List ℕ) × (strictTo w (l .out) ≡ refused what)) ↔ ReadsOthers w l
   refuses =
       let x = wideOf (keptIn w .seqs) (keptIn w .secs) in (
-        λ r. (receivedPairs (keptIn w), comes-back, λ h. narrow x (r .0) (sym strict-is ∙ r .1) (exact (keptIn w) (kept-fit w S) .1 h)),
+        λ r. (receivedPairs (keptIn w), comes-back, λ h. narrow x (r .0) (sym strict-is ∙ r .1) (exact (keptIn w) (kept-fit interval w S) .1 h)),
         λ k. let r = wide x (λ z. k .2 (same-back (k .0) (k .1) .1 z)) in (r .0, strict-is ∙ r .1),
       )
     where
@@ -71,6 +71,6 @@ module _ (w : Table) (S : Sound w) (l : Reload) (lent : Lent (l .seqs) (l .secs)
 
   pub writes : (strictTo w (l .out) ≡ gave (length (imageFor w))) ↔ (listedFor w l ≡ read (keptIn w) (bitsOf (l .following)))
   writes = (
-    λ e. comes-back ∙ ap (λ (p : Pairs). read p (bitsOf (l .following))) (exact (keptIn w) (kept-fit w S) .0 (wrote w S (l .out) (length (imageFor w)) e .0)),
+    λ e. comes-back ∙ ap (λ (p : Pairs). read p (bitsOf (l .following))) (exact (keptIn w) (kept-fit interval w S) .0 (wrote interval w S (l .out) (length (imageFor w)) e .0)),
     λ e. let z = same-back (keptIn w) e .0 refl in strict-is ∙ rw z,
   )

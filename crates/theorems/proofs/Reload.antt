@@ -1,4 +1,4 @@
--- What a strict save wrote comes back: the same kept pairs, the same state, a good table.
+-- What a strict save wrote comes back: the same kept pairs, the same state but for the interval, which is that of the restore, a good table.
 use mathlib.Core.Path.{_≡_, refl, sym, ap, _∙_}
 use mathlib.Core.Bool.{Bool, true, false, cond}
 use mathlib.Core.List.{List, [], _∷_, _++_}
@@ -17,8 +17,8 @@ use Rattle.gorilla.specs.Parser.{read}
 use Rattle.gorilla.specs.RoundTrip.{Fit}
 use Rattle.gorilla.specs.Wide.{wideOf}
 use Rattle.gorilla.proofs.RoundTrip.{strict-reads-back}
-use Rattle.limits.specs.Settings.{roomOf}
-use Rattle.fresh.specs.Fresh.{freshTable, defaultCapacity, defaultIntervalSecs}
+use Rattle.limits.specs.Settings.{badSettings, roomOf}
+use Rattle.fresh.specs.Fresh.{freshTable, defaultCapacity}
 use Rattle.tracker.specs.Table.{pairsOf}
 use Rattle.order.proofs.Bools.{not-given}
 use Rattle.tracker.proofs.Good.{fine, sorted-again, few, count-seqs, count-secs}
@@ -26,21 +26,27 @@ use Rattle.tracker.proofs.Kept.{kept-at, pairs-kept, check-kept}
 use Rattle.offers.proofs.Rise.{over-length}
 use Rattle.encoder.specs.Encode.{roomRule}
 use Rattle.settling.specs.Settle.{lastOf}
-use Rattle.restoring.specs.Restore.{readTable, judged}
+use Rattle.restoring.specs.Restore.{readTable, judged, restoreAt}
+use Rattle.restoring.specs.Interval.{withInterval}
 use Rattle.offers.specs.Whole.{Table}
-use Rattle.theorems.specs.Run.{Reload, Lent, keptIn, imageFor, strictTo, stored, restoreTo, reloadedTo, reloaded, step}
+use Rattle.theorems.specs.Run.{Restoring, plain, naming, restoreBy, intervalBy, Reload, Lent, keptIn, imageFor, strictTo, stored, restoreTo, reloadedTo, reloaded, step}
 use Rattle.theorems.proofs.Kept.{inside-fits}
 use Rattle.theorems.proofs.Sound.{Sound, Same, agreed-in, same-self}
 
-module _ (w : Table) (S : Sound w) where
+-- `restore` is a restore that names the default interval
+by-interval : (r : Restoring) (bytes seqs : List ℕ) (secs : List ℤ) → restoreBy r bytes seqs secs ≡ restoreAt (intervalBy r) bytes seqs secs
+by-interval plain bytes seqs secs = refl
+by-interval (naming named) bytes seqs secs = refl
+
+module _ (interval : ℕ) (w : Table) (S : Sound interval w) where
   pub seqs-long : length (keptIn w .seqs) ≡ w .state .count
-  seqs-long = length-take-le (w .state .count) (w .seqs) (count-seqs (w .state) (w .seqs) (w .secs) (agreed-in w S))
+  seqs-long = length-take-le (w .state .count) (w .seqs) (count-seqs (w .state) (w .seqs) (w .secs) (agreed-in interval w S))
 
   secs-long : length (keptIn w .secs) ≡ w .state .count
-  secs-long = length-take-le (w .state .count) (w .secs) (count-secs (w .state) (w .seqs) (w .secs) (agreed-in w S))
+  secs-long = length-take-le (w .state .count) (w .secs) (count-secs (w .state) (w .seqs) (w .secs) (agreed-in interval w S))
 
   pub at-most : w .state .count ≤ 8192
-  at-most = few (w .state) (w .seqs) (w .secs) (agreed-in w S)
+  at-most = few (w .state) (w .seqs) (w .secs) (agreed-in interval w S)
 
   -- the kept pairs are such as an image holds
   pub kept-fit : Fit (keptIn w)
@@ -54,11 +60,11 @@ module _ (w : Table) (S : Sound w) where
 
   -- ---- restore of the kept pairs
 
-  state-back : freshTable defaultCapacity defaultIntervalSecs (length (keptIn w .seqs)) (lastOf (keptIn w .secs) (length (keptIn w .seqs))) ≡ w .state
-  state-back = λ i. record {
+  state-back : (named : ℕ) → freshTable defaultCapacity named (length (keptIn w .seqs)) (lastOf (keptIn w .secs) (length (keptIn w .seqs))) ≡ withInterval named (w .state)
+  state-back named = λ i. record {
     count = seqs-long i;
     capacity = sym (S .capacity) i;
-    «interval_secs» = sym (S .interval) i;
+    «interval_secs» = named;
     «last_recorded_ts» = (ap (lastOf (keptIn w .secs)) seqs-long ∙ sym (S .last)) i;
   }
 
@@ -69,8 +75,19 @@ module _ (w : Table) (S : Sound w) where
       (pairs-kept n (keptIn w .seqs) (w .seqs) (keptIn w .secs) (w .secs) (take-take n n (w .seqs) (le-refl n)) (take-take n n (w .secs) (le-refl n))
       ∙ sorted-again (w .seqs) (w .secs) n (fine (w .state) (w .seqs) (w .secs) (S .good) .pairs))
 
-  judged-back : (left : List ℕ) → judged (read (keptIn w) left) ≡ gave (w .state)
-  judged-back left = rw pairs-back (ap gave state-back)
+  own-state : (named : ℕ) → named ≡ interval → withInterval named (w .state) ≡ w .state
+  own-state named e = λ i. record {
+    count = w .state .count;
+    capacity = w .state .capacity;
+    «interval_secs» = (e ∙ sym (S .own-interval)) i;
+    «last_recorded_ts» = w .state .«last_recorded_ts»;
+  }
+
+  own-valid : badSettings defaultCapacity interval ≡ false
+  own-valid = rw (← S .own-interval) (le-ltb 9223372036854775807 (w .state .«interval_secs») (agreed-in interval w S .interval-ok))
+
+  judged-back : (named : ℕ) (left : List ℕ) → judged named (read (keptIn w) left) ≡ gave (withInterval named (w .state))
+  judged-back named left = rw pairs-back (ap gave (state-back named))
 
   -- ---- the table in other arrays
 
@@ -86,9 +103,9 @@ module _ (w : Table) (S : Sound w) where
         same-seqs = take-at (keptIn w .seqs) _ (w .state .count) seqs-long;
         same-secs = take-at (keptIn w .secs) _ (w .state .count) secs-long;
         room-seqs = rw (S .capacity, over-length (keptIn w .seqs) seqs (omega (arith, seqs-long, at-most, lent .0))) (lent .0);
-        room-seqs′ = agreed-in w S .fit-seqs;
+        room-seqs′ = agreed-in interval w S .fit-seqs;
         room-secs = rw (S .capacity, over-length (keptIn w .secs) secs (omega (arith, secs-long, at-most, lent .1))) (lent .1);
-        room-secs′ = agreed-in w S .fit-secs;
+        room-secs′ = agreed-in interval w S .fit-secs;
       };
     }
 
@@ -96,7 +113,7 @@ module _ (w : Table) (S : Sound w) where
     unfolding moved
     moved-kept = λ i. record { seqs = moved-same .alike .same-seqs i; secs = moved-same .alike .same-secs i }
 
-    moved-sound : Sound (moved seqs secs)
+    moved-sound : Sound interval (moved seqs secs)
     unfolding moved
     moved-sound =
         let a = moved-same .alike in
@@ -107,7 +124,7 @@ module _ (w : Table) (S : Sound w) where
               (le-ltb (length (over (keptIn w .secs) secs)) room (a .room-secs) ∙ sym (le-ltb (length (w .secs)) room (a .room-secs′)))
               ∙ S .good;
           capacity = S .capacity;
-          interval = S .interval;
+          own-interval = S .own-interval;
           last = rw (a .same-secs) (S .last);
           seqs64 = λ j h. rw (kept-at (w .state .count) (over (keptIn w .seqs) seqs) (w .seqs) j 0 (a .same-seqs) h) (S .seqs64 j h);
         }
@@ -137,28 +154,35 @@ module _ (w : Table) (S : Sound w) where
           ap readTable stored-is
           ∙ strict-reads-back (keptIn w) (λ k. leb k 8192) (l .following) kept-fit (le-leb (length (keptIn w .seqs)) 8192 (omega (arith, seqs-long, at-most))) (wrote (l .out) n e .0)
 
-      state-restored : Lent (l .seqs) (l .secs) → restoreTo w l ≡ gave (w .state)
-      state-restored (a, b) = rw (le-ltb (length (l .seqs)) 8192 a, le-ltb (length (l .secs)) 8192 b, reads-back) (judged-back (bitsOf (l .following)))
+      state-restored : badSettings defaultCapacity (intervalBy (l .by)) ≡ false → Lent (l .seqs) (l .secs) → restoreTo w l ≡ gave (withInterval (intervalBy (l .by)) (w .state))
+      state-restored v (a, b) =
+          by-interval (l .by) (stored strictTo w l) (l .seqs) (l .secs)
+          ∙ rw (v, le-ltb (length (l .seqs)) 8192 a, le-ltb (length (l .secs)) 8192 b, reads-back) (judged-back (intervalBy (l .by)) (bitsOf (l .following)))
 
-      reload-is : Lent (l .seqs) (l .secs) → reloadedTo w l (gave n) (restoreTo w l) ≡ moved (l .seqs) (l .secs)
+      pub restores : badSettings defaultCapacity (intervalBy (l .by)) ≡ false → Lent (l .seqs) (l .secs)
+          → (restoreTo w l ≡ gave (withInterval (intervalBy (l .by)) (w .state))) × (keptIn (step w (reloaded l)) ≡ keptIn w)
+      unfolding step moved
+      restores v lent =
+          let s = state-restored v lent in
+          (s, ap (λ (told : Told ℕ). keptIn (reloadedTo w l told (restoreTo w l))) e ∙ rw (s, reads-back) (moved-kept (l .seqs) (l .secs) lent))
+
+      reload-is : intervalBy (l .by) ≡ interval → Lent (l .seqs) (l .secs) → reloadedTo w l (gave n) (restoreTo w l) ≡ moved (l .seqs) (l .secs)
       unfolding moved
-      reload-is lent = rw (state-restored lent, reads-back)
+      reload-is own lent =
+          let s : restoreTo w l ≡ gave (w .state) = state-restored (rw own own-valid) lent ∙ ap gave (own-state (intervalBy (l .by)) own) in
+          rw (s, reads-back)
 
-      pub restores : Lent (l .seqs) (l .secs) → (restoreTo w l ≡ gave (w .state)) × (keptIn (step w (reloaded l)) ≡ keptIn w)
-      unfolding step
-      restores lent = (state-restored lent, ap (λ (told : Told ℕ). keptIn (reloadedTo w l told (restoreTo w l))) e ∙ ap keptIn (reload-is lent) ∙ moved-kept (l .seqs) (l .secs) lent)
-
-    module _ (lent : Lent (l .seqs) (l .secs)) where
-      pub reload-sound : Sound (reloadedTo w l (strictTo w (l .out)) (restoreTo w l))
+    module _ (own : intervalBy (l .by) ≡ interval) (lent : Lent (l .seqs) (l .secs)) where
+      pub reload-sound : Sound interval (reloadedTo w l (strictTo w (l .out)) (restoreTo w l))
       reload-sound = go (strictTo w (l .out)) refl
         where
-          go : (told : Told ℕ) → strictTo w (l .out) ≡ told → Sound (reloadedTo w l told (restoreTo w l))
-          go (gave n) e = rw (reload-is n e lent) (moved-sound (l .seqs) (l .secs) lent)
+          go : (told : Told ℕ) → strictTo w (l .out) ≡ told → Sound interval (reloadedTo w l told (restoreTo w l))
+          go (gave n) e = rw (reload-is n e own lent) (moved-sound (l .seqs) (l .secs) lent)
           go (refused what) e = S
 
       pub reload-same : Same (reloadedTo w l (strictTo w (l .out)) (restoreTo w l)) w
       reload-same = go (strictTo w (l .out)) refl
         where
           go : (told : Told ℕ) → strictTo w (l .out) ≡ told → Same (reloadedTo w l told (restoreTo w l)) w
-          go (gave n) e = rw (reload-is n e lent) (moved-same (l .seqs) (l .secs) lent)
-          go (refused what) e = same-self w S
+          go (gave n) e = rw (reload-is n e own lent) (moved-same (l .seqs) (l .secs) lent)
+          go (refused what) e = same-self interval w S

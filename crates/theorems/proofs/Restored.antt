@@ -1,4 +1,4 @@
--- A table that `restore` leaves is sound, whatever bytes it read.
+-- A table that a restore leaves is sound, whatever bytes it read.
 use mathlib.Core.Path.{_≡_, refl, sym, _∙_}
 use mathlib.Core.Bool.{Bool, true, false, cond, _||_}
 use mathlib.Core.List.{List, [], _∷_}
@@ -19,7 +19,8 @@ use Rattle.gorilla.specs.Reading.{Pairs, pairsRead}
 use Rattle.gorilla.proofs.Counts.{image-counts}
 use Rattle.order.proofs.Bools.{neither, not-given, passed}
 use Rattle.order.proofs.Order.{itself, int-order}
-use Rattle.fresh.specs.Fresh.{freshTable, defaultCapacity, defaultIntervalSecs}
+use Rattle.limits.specs.Settings.{badSettings}
+use Rattle.fresh.specs.Fresh.{freshTable, defaultCapacity}
 use Rattle.tracker.specs.Table.{pairsOf}
 use Rattle.tracker.specs.Inner.{lastMisplaced, lastOutside, lastBelow}
 use Rattle.tracker.specs.declared.SequenceTracker.{SequenceTracker}
@@ -29,7 +30,7 @@ use Rattle.tracker.proofs.Kept.{kept-at, pairs-kept}
 use Rattle.offers.proofs.Rise.{over-length}
 use Rattle.offers.specs.Whole.{whole}
 use Rattle.settling.specs.Settle.{lastOf}
-use Rattle.restoring.specs.Restore.{readTable, judged, Restores}
+use Rattle.restoring.specs.Restore.{readTable, judged, readInto, RestoresAt}
 use Rattle.restoring.specs.declared.Restored.the-variants as restored
 use Rattle.theorems.specs.Run.{Lent}
 use Rattle.theorems.proofs.Small.{seqs-small}
@@ -48,18 +49,18 @@ last-agrees seqs xs ys n s e = go (eqb n 0) refl
         (f, s .inside (n - 1) l, rw (kept-at n xs ys (n - 1) (pos 0) e l) (itself ltZ int-order (getD ys (n - 1) (pos 0))))
 
 -- n pairs that are in order, stored over two lent arrays
-module _ (p : Pairs) (seqs : List ℕ) (secs : List ℤ) (lent : Lent seqs secs) (n : ℕ) (a : length (p .seqs) ≡ n) (b : length (p .secs) ≡ n) (few : n ≤ 8192) where
+module _ (interval : ℕ) (valid : badSettings defaultCapacity interval ≡ false) (p : Pairs) (seqs : List ℕ) (secs : List ℤ) (lent : Lent seqs secs) (n : ℕ) (a : length (p .seqs) ≡ n) (b : length (p .secs) ≡ n) (few : n ≤ 8192) where
   settled-sound : ((j : ℕ) → getD (p .seqs) j 0 < 2 ^ 64) → pairsOf (p .seqs) (p .secs) n ≡ gave tt
-      → Sound (whole (freshTable defaultCapacity defaultIntervalSecs n (lastOf (p .secs) n)) (over (p .seqs) seqs) (over (p .secs) secs))
+      → Sound interval (whole (freshTable defaultCapacity interval n (lastOf (p .secs) n)) (over (p .seqs) seqs) (over (p .secs) secs))
   settled-sound small h =
       let s : take n (over (p .seqs) seqs) ≡ take n (p .seqs) = take-at (p .seqs) _ n a ∙ sym (take-all n (p .seqs) (omega arith)) in
       let t : take n (over (p .secs) secs) ≡ take n (p .secs) = take-at (p .secs) _ n b ∙ sym (take-all n (p .secs) (omega arith)) in
       let last = last-agrees (p .seqs) (p .secs) (over (p .secs) secs) n (sorted (p .seqs) (p .secs) n h) (sym t) in
       record {
-        good = fine-again (freshTable defaultCapacity defaultIntervalSecs n (lastOf (p .secs) n)) (over (p .seqs) seqs) (over (p .secs) secs) (record {
+        good = fine-again (freshTable defaultCapacity interval n (lastOf (p .secs) n)) (over (p .seqs) seqs) (over (p .secs) secs) (record {
           state = record {
             capacity-ok = omega arith;
-            interval-ok = omega arith;
+            interval-ok = omega (arith, ltb-false 9223372036854775807 interval valid);
             fit-seqs = omega (arith, over-length (p .seqs) seqs (omega (arith, a, few, lent .0)), lent .0);
             fit-secs = omega (arith, over-length (p .secs) secs (omega (arith, b, few, lent .1)), lent .1);
             count-room = few;
@@ -70,7 +71,7 @@ module _ (p : Pairs) (seqs : List ℕ) (secs : List ℤ) (lent : Lent seqs secs)
           pairs = sorted (over (p .seqs) seqs) (over (p .secs) secs) n (pairs-kept n (over (p .seqs) seqs) (p .seqs) (over (p .secs) secs) (p .secs) s t ∙ h);
         });
         capacity = refl;
-        interval = refl;
+        own-interval = refl;
         last = rw (take-at (p .secs) (drop (length (p .secs)) secs) n b);
         seqs64 = λ j l. rw (kept-at n (over (p .seqs) seqs) (p .seqs) j 0 s l) (small j);
       }
@@ -79,16 +80,17 @@ settled : (x : Told (Unit {0})) (s t : SequenceTracker) → ifGood x (gave s) �
 settled (gave tt) s t h = (refl, same-gift h)
 settled (refused l) s t h = absurd (not-given l t h)
 
-pub restored-sound : (bytes seqs seqs′ : List ℕ) (secs secs′ : List ℤ) (t : SequenceTracker) → Restores bytes seqs secs (restored.Table t) seqs′ secs′ → Sound (whole t seqs′ secs′)
-restored-sound bytes seqs seqs′ secs secs′ t (told, es, et) =
-    let short = passed (ltb (length seqs) 8192 || ltb (length secs) 8192) (14 ∷ []) (judged (readTable bytes)) t (sym told) in
+pub restored-sound : (interval : ℕ) (bytes seqs seqs′ : List ℕ) (secs secs′ : List ℤ) (t : SequenceTracker) → RestoresAt interval bytes seqs secs (restored.Table t) seqs′ secs′ → Sound interval (whole t seqs′ secs′)
+restored-sound interval bytes seqs seqs′ secs secs′ t (told, es, et) =
+    let named = passed (badSettings defaultCapacity interval) (15 ∷ []) (readInto interval bytes seqs secs) t (sym told) in
+    let short = passed (ltb (length seqs) 8192 || ltb (length secs) 8192) (14 ∷ []) (judged interval (readTable bytes)) t (named .1) in
     let long = neither (ltb (length seqs) 8192) (ltb (length secs) 8192) (short .0) in
-    rw (es, et) (go (readTable bytes) refl (omega (arith, ltb-false (length seqs) 8192 (long .0)), omega (arith, ltb-false (length secs) 8192 (long .1))) (short .1))
+    rw (es, et) (go (named .0) (readTable bytes) refl (omega (arith, ltb-false (length seqs) 8192 (long .0)), omega (arith, ltb-false (length secs) 8192 (long .1))) (short .1))
   where
-    go : (r : Read Pairs) → readTable bytes ≡ r → Lent seqs secs → judged r ≡ gave t → Sound (whole t (over (pairsRead r .seqs) seqs) (over (pairsRead r .secs) secs))
-    go (read p left) e lent j =
+    go : badSettings defaultCapacity interval ≡ false → (r : Read Pairs) → readTable bytes ≡ r → Lent seqs secs → judged interval r ≡ gave t → Sound interval (whole t (over (pairsRead r .seqs) seqs) (over (pairsRead r .secs) secs))
+    go valid (read p left) e lent j =
         let n = length (p .seqs) in
         let counts = image-counts (λ m. leb m 8192) bytes e in
-        let x = settled (pairsOf (p .seqs) (p .secs) n) (freshTable defaultCapacity defaultIntervalSecs n (lastOf (p .secs) n)) t j in
-        rw (← x .1) (settled-sound p seqs secs lent n refl (sym (counts .0)) (omega (arith, counts .0, leb-true (length (p .secs)) 8192 (counts .1))) (seqs-small (λ m. leb m 8192) bytes left p e) (x .0))
-    go (parser.refused l) e lent j = absurd (not-given l t j)
+        let x = settled (pairsOf (p .seqs) (p .secs) n) (freshTable defaultCapacity interval n (lastOf (p .secs) n)) t j in
+        rw (← x .1) (settled-sound interval valid p seqs secs lent n refl (sym (counts .0)) (omega (arith, counts .0, leb-true (length (p .secs)) 8192 (counts .1))) (seqs-small (λ m. leb m 8192) bytes left p e) (x .0))
+    go valid (parser.refused l) e lent j = absurd (not-given l t j)

@@ -1,5 +1,6 @@
 -- An offer leaves a sound table sound, and two tables that keep the same pairs answer alike and go on alike.
 use mathlib.Core.Path.{_≡_, refl, sym, ap, _∙_}
+use mathlib.Core.Bool.{false}
 use mathlib.Core.List.{List}
 use Prim.Native.Nat.{ℕ, _<_, _^_}
 use native.Mathlib.Omega.{arith}
@@ -8,7 +9,8 @@ use lib.IntN.{ℤ}
 use lib.ListN.{length, getD}
 use Rattle.told.specs.Told.{Told, gave, refused}
 use Rattle.order.specs.First.{firstFrom}
-use Rattle.fresh.specs.Fresh.{defaultCapacity, defaultIntervalSecs}
+use Rattle.limits.specs.Settings.{badSettings}
+use Rattle.fresh.specs.Fresh.{defaultCapacity, emptyTable}
 use Rattle.tracker.specs.Table.{checkOf}
 use Rattle.tracker.specs.declared.Seq.{Seq}
 use Rattle.tracker.specs.declared.Second.{Second}
@@ -20,14 +22,14 @@ use Rattle.offers.proofs.Alike.{Alike, alike-told, alike-after}
 use Rattle.offers.proofs.Newest.{newest-sec}
 use Rattle.settling.specs.Settle.{lastOf}
 use Rattle.offers.specs.Whole.{Table, whole}
-use Rattle.theorems.specs.Run.{new, keptIn, Lent}
+use Rattle.theorems.specs.Run.{keptIn, Lent}
 use Rattle.theorems.proofs.Kept.{kept-all, some-kept}
 
--- a good table with the default settings, whose last recorded second is the last that it keeps, and whose sequences are u64s
-pub record Sound (w : Table) : Type 0 where
+-- a good table with the default capacity and this interval, whose last recorded second is the last that it keeps, and whose sequences are u64s
+pub record Sound (interval : ℕ) (w : Table) : Type 0 where
   pub good : checkOf (w .state) (w .seqs) (w .secs) ≡ gave tt
   pub capacity : w .state .capacity ≡ defaultCapacity
-  pub interval : w .state .«interval_secs» ≡ defaultIntervalSecs
+  pub own-interval : w .state .«interval_secs» ≡ interval
   pub last : w .state .«last_recorded_ts» ≡ lastOf (keptIn w .secs) (w .state .count)
   pub seqs64 : (j : ℕ) → j < w .state .count → getD (w .seqs) j 0 < 2 ^ 64
 
@@ -36,7 +38,7 @@ pub record Same (w v : Table) : Type 0 where
   pub state : w .state ≡ v .state
   pub alike : Alike (w .state) (w .seqs) (v .seqs) (w .secs) (v .secs)
 
-module _ (w : Table) (S : Sound w) where
+module _ (interval : ℕ) (w : Table) (S : Sound interval w) where
   pub agreed-in : Agreed (w .state) (w .seqs) (w .secs)
   agreed-in = fine (w .state) (w .seqs) (w .secs) (S .good) .state
 
@@ -47,23 +49,23 @@ module _ (w : Table) (S : Sound w) where
   }
 
   module _ (seq : Seq) (ts : Second) (small : seq .0 < 2 ^ 64) where
-    recorded-sound : (t : SequenceTracker) → offerTo w seq ts ≡ gave (recorded t) → Sound (offeredTo w seq ts (gave (recorded t)))
+    recorded-sound : (t : SequenceTracker) → offerTo w seq ts ≡ gave (recorded t) → Sound interval (offeredTo w seq ts (gave (recorded t)))
     recorded-sound t e =
         let k = taken (w .state) (w .seqs) (w .secs) seq ts t e in
         let count-is = recorded-count (w .state) (w .seqs) (w .secs) seq ts t e in
         record {
           good = stays-good (w .state) (w .seqs) (w .secs) seq ts (gave (recorded t)) e (S .good);
           capacity = sym (ap (λ (s : SequenceTracker). s .capacity) (k .state)) ∙ S .capacity;
-          interval = sym (ap (λ (s : SequenceTracker). s .«interval_secs») (k .state)) ∙ S .interval;
+          own-interval = sym (ap (λ (s : SequenceTracker). s .«interval_secs») (k .state)) ∙ S .own-interval;
           last = sym (ap (λ (s : SequenceTracker). s .«last_recorded_ts») (k .state))
               ∙ rw (ne-eqb (t .count) 0 (λ z. omega (arith, count-is, some-kept (w .state .capacity) (w .state .count))), newest-sec (w .state) (w .seqs) (w .secs) seq ts t e 4096 (S .capacity) (omega arith)) refl;
           seqs64 = λ j h. kept-all 0 (λ x. x < 2 ^ 64) (w .state .count) (w .seqs) (seq .0) (w .state .capacity) (count-seqs (w .state) (w .seqs) (w .secs) agreed-in) (S .seqs64) small j (rw count-is at h);
         }
 
-    pub offered-sound : Sound (offeredTo w seq ts (offerTo w seq ts))
+    pub offered-sound : Sound interval (offeredTo w seq ts (offerTo w seq ts))
     offered-sound = go (offerTo w seq ts) refl
       where
-        go : (told : Told Outcome) → offerTo w seq ts ≡ told → Sound (offeredTo w seq ts told)
+        go : (told : Told Outcome) → offerTo w seq ts ≡ told → Sound interval (offeredTo w seq ts told)
         go (gave (recorded t)) e = recorded-sound t e
         go (gave wentBack) e = S
         go (gave tooSoon) e = S
@@ -82,13 +84,13 @@ module _ (w v : Table) (M : Same w v) (seq : Seq) (ts : Second) where
       go (gave tooSoon) = refl
       go (refused what) = refl
 
--- a new table
-pub new-sound : (seqs : List ℕ) (secs : List ℤ) → Lent seqs secs → Sound (new seqs secs)
+-- an empty table
+pub empty-sound : (interval : ℕ) (seqs : List ℕ) (secs : List ℤ) → badSettings defaultCapacity interval ≡ false → Lent seqs secs → Sound interval (whole (emptyTable defaultCapacity interval) seqs secs)
 unfolding firstFrom
-new-sound seqs secs (a, b) = record {
-  good = rw (le-ltb (length seqs) 8192 a, le-ltb (length secs) 8192 b);
+empty-sound interval seqs secs v (a, b) = record {
+  good = rw (v, le-ltb (length seqs) 8192 a, le-ltb (length secs) 8192 b);
   capacity = refl;
-  interval = refl;
+  own-interval = refl;
   last = refl;
   seqs64 = λ j h. absurd (omega arith);
 }

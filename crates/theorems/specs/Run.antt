@@ -1,6 +1,8 @@
--- The third demand: offers to a table, new or restored from any bytes, with strict saves and restores between them, go as the offers alone would.
+-- The third demand: offers to a table of capacity 8,192 and any valid interval, new or restored from any bytes, with strict saves and restores at that interval between them, go as the offers
+-- alone would. At the default settings `restore` is such a restore.
 use Prim.Native.Nat.{ℕ, _≤_, _<_, _^_}
 use mathlib.Core.Path.{_≡_}
+use mathlib.Core.Bool.{false}
 use mathlib.Core.Logic.{_↔_}
 use mathlib.Core.List.{List, [], _∷_, _++_}
 use lib.ListN.{length, take, getD}
@@ -10,7 +12,8 @@ use Rattle.told.specs.Over.{over, filled}
 use Rattle.bit_lists.specs.BitList.{bitsOf}
 use Rattle.gorilla.specs.Parser.{Read, read}
 use Rattle.gorilla.specs.Reading.{Pairs, pairsRead}
-use Rattle.fresh.specs.Fresh.{newTable}
+use Rattle.limits.specs.Settings.{badSettings}
+use Rattle.fresh.specs.Fresh.{defaultCapacity, defaultIntervalSecs, newTable, configOf}
 use Rattle.tracker.specs.Table.{kept}
 use Rattle.tracker.specs.declared.Seq.{Seq}
 use Rattle.tracker.specs.declared.Second.{Second}
@@ -24,7 +27,8 @@ use Rattle.log.specs.Log.{Log, logOf}
 use Rattle.log.specs.Pairs.{pairsLogOf, extendOf}
 use Rattle.decoder.specs.Decode.{listed}
 use Rattle.saving.specs.Save.{saveStrictOf, saveOf, keptImage}
-use Rattle.restoring.specs.Restore.{readTable, restoreOf, Restores}
+use Rattle.restoring.specs.Restore.{readTable, restoreOf, restoreAt, Restores, RestoresAt}
+use Rattle.restoring.specs.Interval.{withInterval}
 use Rattle.restoring.specs.declared.Restored.the-variants as restored
 
 -- as `new` makes it, in two arrays that hold what they hold
@@ -37,8 +41,24 @@ keptIn w = record { seqs = kept (w .state) (w .seqs); secs = kept (w .state) (w 
 
 -- ---- a strict save, and a restore of what it wrote
 
--- `out` is lent to the save, the bytes `following` stand after the image, and `seqs` and `secs` are lent to restore; each holds what it holds
+-- which restore is called: `restore`, or `restore_with_interval` with this interval
+pub data Restoring : Type 0 where
+  plain : Restoring
+  naming : ℕ → Restoring
+
+-- what it tells
+abbrev pub restoreBy : Restoring → List ℕ → List ℕ → List ℤ → Told SequenceTracker
+restoreBy plain = restoreOf
+restoreBy (naming interval) = restoreAt interval
+
+-- the interval that it gives a table
+abbrev pub intervalBy : Restoring → ℕ
+intervalBy plain = defaultIntervalSecs
+intervalBy (naming interval) = interval
+
+-- `out` is lent to the save, the bytes `following` stand after the image, and `seqs` and `secs` are lent to the restore; each holds what it holds
 pub record Reload : Type 0 where
+  pub by : Restoring
   pub out : List ℕ
   pub following : List ℕ
   pub seqs : List ℕ
@@ -64,9 +84,9 @@ bytesWritten (refused what) out = []
 abbrev pub stored : (Table → List ℕ → Told ℕ) → Table → Reload → List ℕ
 stored save w l = bytesWritten (save w (l .out)) (filled (save w (l .out)) (imageFor w) (l .out)) ++ l .following
 
--- what `restore` tells of what a strict save wrote
+-- what the restore tells of what a strict save wrote
 abbrev pub restoreTo : Table → Reload → Told SequenceTracker
-restoreTo w l = restoreOf (stored strictTo w l) (l .seqs) (l .secs)
+restoreTo w l = restoreBy (l .by) (stored strictTo w l) (l .seqs) (l .secs)
 
 -- the pairs that it reads
 abbrev pub readFor : Table → Reload → Pairs
@@ -110,11 +130,11 @@ offersIn (reloaded l ∷ es) = offersIn es
 abbrev pub Lent : List ℕ → List ℤ → Type 0
 Lent seqs secs = (8192 ≤ length seqs) × (8192 ≤ length secs)
 
--- all that is asked of the events: a sequence is a u64 (a second is any number), and restore is lent two such arrays
-unfoldable pub Proper : List Event → Type 0
-Proper [] = Unit {0}
-Proper (offered seq ts ∷ es) = (seq .0 < 2 ^ 64) × Proper es
-Proper (reloaded l ∷ es) = Lent (l .seqs) (l .secs) × Proper es
+-- all that is asked of the events: a sequence is a u64 (a second is any number), and each restore is at this interval and is lent two such arrays
+unfoldable pub Proper : ℕ → List Event → Type 0
+Proper interval [] = Unit {0}
+Proper interval (offered seq ts ∷ es) = (seq .0 < 2 ^ 64) × Proper interval es
+Proper interval (reloaded l ∷ es) = (intervalBy (l .by) ≡ interval) × Lent (l .seqs) (l .secs) × Proper interval es
 
 -- ---- a list of offers
 
@@ -152,9 +172,9 @@ pub record Unharmed (w v : Table) : Type 0 where
   -- each save, strict or not, and the buffer after it
   pub by-strict : (out : List ℕ) → (strictTo w out ≡ strictTo v out) × (filled (strictTo w out) (imageFor w) out ≡ filled (strictTo v out) (imageFor v) out)
   pub by-save : (out : List ℕ) → (saveTo w out ≡ saveTo v out) × (filled (saveTo w out) (imageFor w) out ≡ filled (saveTo v out) (imageFor v) out)
-  -- restore never refuses what a strict save wrote: it gives back the state and the pairs
-  pub restores : (l : Reload) (n : ℕ) → Lent (l .seqs) (l .secs) → strictTo w (l .out) ≡ gave n
-      → (restoreTo w l ≡ gave (w .state)) × (keptIn (step w (reloaded l)) ≡ keptIn w)
+  -- a restore at a valid interval never refuses what a strict save wrote: it gives back the pairs, and the state with that interval in it, so at the table's own the same state
+  pub restores : (l : Reload) (n : ℕ) → badSettings defaultCapacity (intervalBy (l .by)) ≡ false → Lent (l .seqs) (l .secs) → strictTo w (l .out) ≡ gave n
+      → (restoreTo w l ≡ gave (withInterval (intervalBy (l .by)) (w .state))) × (keptIn (step w (reloaded l)) ≡ keptIn w)
   -- with room for the image a strict save is refused at all exactly where what the Rust's save wrote reads back as other pairs, and then
   -- with 20; and it writes the image exactly where that reads back as the kept ones
   pub exact : (l : Reload) → length (imageFor w) ≤ length (l .out) → Lent (l .seqs) (l .secs)
@@ -162,13 +182,24 @@ pub record Unharmed (w v : Table) : Type 0 where
       × ((what : List ℕ) → strictTo w (l .out) ≡ refused what → getD what 0 0 ≡ 20)
       × ((strictTo w (l .out) ≡ gave (length (imageFor w))) ↔ (listedFor w l ≡ read (keptIn w) (bitsOf (l .following))))
 
--- by any events from the table w on: each offer is told what it is told without the saves and restores, and the table is unharmed
-abbrev pub GoesOn : Table → Type 0
-GoesOn w = (es : List Event) → Proper es → (answers w es ≡ answers w (offersIn es)) × Unharmed (ranTo w es) (ranTo w (offersIn es))
+-- by any events from the table w on, with restores at this interval: each offer is told what it is told without the saves and restores, and the table is unharmed
+abbrev pub GoesOn : ℕ → Table → Type 0
+GoesOn interval w = (es : List Event) → Proper interval es → (answers w es ≡ answers w (offersIn es)) × Unharmed (ranTo w es) (ranTo w (offersIn es))
 
--- from a new table in any two arrays of at least 8,192 places; and from each table that `restore` leaves, with the state t that it gives: of any bytes
--- that it accepts, whoever wrote them
+-- at capacity 8,192 and every interval that the calls take: from the table that `with_config` makes, with the state t, in any two arrays of at least 8,192 places; and
+-- from each table that `restore_with_interval` leaves, with the state t that it gives: of any bytes that it accepts, whoever wrote them
 abbrev pub Demand : Type 0
-Demand =
-    ((seqs : List ℕ) (secs : List ℤ) → Lent seqs secs → GoesOn (new seqs secs))
-    × ((bytes seqs seqs′ : List ℕ) (secs secs′ : List ℤ) (t : SequenceTracker) → Restores bytes seqs secs (restored.Table t) seqs′ secs′ → GoesOn (whole t seqs′ secs′))
+Demand = (interval : ℕ)
+    → ((seqs : List ℕ) (secs : List ℤ) (t : SequenceTracker) → configOf defaultCapacity interval ≡ gave t → Lent seqs secs → GoesOn interval (whole t seqs secs))
+    × ((bytes seqs seqs′ : List ℕ) (secs secs′ : List ℤ) (t : SequenceTracker) → RestoresAt interval bytes seqs secs (restored.Table t) seqs′ secs′ → GoesOn interval (whole t seqs′ secs′))
+
+-- at the default settings, by themselves: from a new table, and from each table that `restore` leaves; the restores of the run may be `restore`, which is at the default interval
+abbrev pub DemandByDefault : Type 0
+DemandByDefault =
+    ((seqs : List ℕ) (secs : List ℤ) → Lent seqs secs → GoesOn defaultIntervalSecs (new seqs secs))
+    × ((bytes seqs seqs′ : List ℕ) (secs secs′ : List ℤ) (t : SequenceTracker) → Restores bytes seqs secs (restored.Table t) seqs′ secs′ → GoesOn defaultIntervalSecs (whole t seqs′ secs′))
+
+-- the restores have to be at the table's own interval: with restores at another valid one no table that `with_config` makes goes on so
+abbrev pub OwnIntervalNeeded : Type 0
+OwnIntervalNeeded = (interval other : ℕ) (seqs : List ℕ) (secs : List ℤ) (t : SequenceTracker) → configOf defaultCapacity interval ≡ gave t → Lent seqs secs
+    → badSettings defaultCapacity other ≡ false → (other ≡ interval → ⊥) → GoesOn other (whole t seqs secs) → ⊥

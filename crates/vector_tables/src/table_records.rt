@@ -35,6 +35,9 @@ struct Ran {
 // The number of a refusal that no record expects.
 const UNEXPECTED: usize = 255;
 
+// The interval of every table that slatedb restores. Ours is another by default, so it is named.
+const SLATEDB_INTERVAL_SECS: u64 = 60;
+
 fn number_of(why: Refusal) -> usize {
     match why {
         Refusal::Disagrees => 14,
@@ -204,7 +207,8 @@ fn restored_so(b: &[u8], table: SequenceTracker, answered: bool) -> Changed {
 
 pub fn restored(b: &[u8], table: SequenceTracker, seqs: &mut [u64], secs: &mut [i64]) -> Changed {
     let code = u16_at(b, 0);
-    match restoring::restore(part(b, 22, b.len()), seqs, secs) {
+    let image = part(b, 22, b.len());
+    match restoring::restore_with_interval(image, seqs, secs, SLATEDB_INTERVAL_SECS) {
         Restored::Table(next) => restored_so(b, next, code == 0),
         Restored::Refused(why) => restored_so(b, table, code == number_of(why)),
         Restored::NotDecoded(why) => restored_so(b, table, refused_so(why, code, b, 14)),

@@ -46,7 +46,7 @@ returns c =
     let a = counted .before .before .before .before .args in
     let good = ap toldCheck (told .enum-told .given .1) in
     let all = counted .if-good .ensures .0 ∙ ap (λ (t : Told (Unit {0})). countIfGood t (a .n)) good in (
-      rw (sym (counted .before .pairs .ensures) ∙ good) (ap gave (c .fresh .ensures ∙ ap (freshTable 8192 60 (a .n)) (c .before .last-of .ensures))),
+      rw (sym (counted .before .pairs .ensures) ∙ good) (ap gave (c .fresh .ensures ∙ ap (freshTable 8192 (a .interval-secs) (a .n)) (c .before .last-of .ensures))),
       simp (seqs-copied .copy-seqs .ensures, all),
       simp (secs-copied .copy-secs .ensures, all),
     )
