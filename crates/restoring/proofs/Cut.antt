@@ -1,9 +1,9 @@
 -- What `restore` answers of an image that is cut off. Assumes nothing.
 use Prim.Native.Nat.{ℕ, _-_, _/_, _<_}
 use mathlib.Core.Path.{_≡_, refl, sym, ap}
-use mathlib.Core.Bool.{Bool, true, false, cond, _||_}
+use mathlib.Core.Bool.{Bool, true, false, cond}
 use mathlib.Core.List.{[], _∷_}
-use lib.Dec.{leb, ltb}
+use lib.Dec.{leb}
 use lib.ListN.{length, take}
 use Rattle.told.specs.Told.{gave, refused}
 use Rattle.told.proofs.Unique.{given-not-refused}
@@ -16,11 +16,11 @@ use Rattle.limits.specs.Settings.{badSettings}
 use Rattle.fresh.specs.Fresh.{defaultCapacity}
 use Rattle.decoder.specs.Decode.{imageLenRule}
 use Rattle.decoder.proofs.Cut.{cut-as, told-len}
-use Rattle.restoring.specs.Restore.{readTable, judged}
+use Rattle.restoring.specs.Restore.{readTable, judged, tooShort}
 use Rattle.restoring.specs.Cut.{RestoreTellsWhere}
 
 pub restore-tells-where : RestoreTellsWhere
-restore-tells-where interval bytes seqs secs t h = go (badSettings defaultCapacity interval) (ltb (length seqs) 8192 || ltb (length secs) 8192) h
+restore-tells-where interval bytes seqs secs t h = go (badSettings defaultCapacity interval) (tooShort (length seqs) (length secs)) h
   where
     read-then : (r : Read Pairs) → readTable bytes ≡ r → judged interval r ≡ gave t
         → (n : ℕ) × (imageLenRule bytes ≡ gave n) × ((k : ℕ) → k < n → CutOff (take k bytes) (λ l. judged interval (readTable (take k bytes)) ≡ refused l))

@@ -1,10 +1,7 @@
 -- A restore that names an interval answers as `restore` does, with that interval in the state. Assumes nothing.
-use mathlib.Core.Path.{_≡_, refl, ap, _∙_}
-use mathlib.Core.Bool.{Bool, true, false, cond, _||_}
-use mathlib.Core.List.{List, [], _∷_}
-use Prim.Native.Nat.{ℕ}
-use lib.Dec.{ltb}
-use lib.IntN.{ℤ}
+use mathlib.Core.Path.{_≡_, refl, ap}
+use mathlib.Core.Bool.{Bool, true, false, cond}
+use mathlib.Core.List.{[], _∷_}
 use lib.ListN.{length}
 use Rattle.told.specs.Told.{Told, gave, refused, ifGood}
 use Rattle.limits.specs.Settings.{badSettings}
@@ -15,11 +12,11 @@ use Rattle.fresh.specs.Fresh.{defaultCapacity, defaultIntervalSecs, freshTable}
 use Rattle.tracker.specs.Table.{pairsOf}
 use Rattle.tracker.specs.declared.SequenceTracker.{SequenceTracker}
 use Rattle.settling.specs.Settle.{lastOf}
-use Rattle.restoring.specs.Restore.{readTable, judged}
+use Rattle.restoring.specs.Restore.{readTable, judged, tooShort}
 use Rattle.restoring.specs.Interval.{toldWith, AsRestore}
 
 pub as-restore : AsRestore
-as-restore interval bytes seqs secs = ap (cond (badSettings defaultCapacity interval) (refused (15 ∷ []))) (room (ltb (length seqs) 8192 || ltb (length secs) 8192))
+as-restore interval bytes seqs secs = ap (cond (badSettings defaultCapacity interval) (refused (15 ∷ []))) (room (tooShort (length seqs) (length secs)))
   where
     settled : (checked : Told (Unit {0})) (t u : SequenceTracker) → gave u ≡ toldWith interval (gave t) → ifGood checked (gave u) ≡ toldWith interval (ifGood checked (gave t))
     settled (gave x) t u e = e

@@ -4,8 +4,8 @@ use mathlib.Core.Path.{_≡_, refl, sym, ap, ap₂, _∙_}
 use mathlib.Core.Bool.{Bool, true, false, cond}
 use mathlib.Core.List.{List, [], _∷_}
 use native.Mathlib.Omega.{arith}
-use borrow.Author.Tests.{leb-true, eqb-false, lt-ltb, le-ltb}
-use lib.Dec.{leb, eqb}
+use borrow.Author.Tests.{ltb-false, leb-true, eqb-false}
+use lib.Dec.{leb, ltb, eqb}
 use lib.ListN.{length, getD, take, drop, length-append}
 use lib.Seq.{take-at, take-all}
 use lib.IntN.{ℤ, pos}
@@ -15,6 +15,7 @@ use Rattle.gorilla.specs.Parser.{Read, read}
 use Rattle.gorilla.specs.Parser as parser
 use Rattle.gorilla.specs.Reading.{Pairs, pairsRead}
 use Rattle.gorilla.proofs.Counts.{image-counts}
+use Rattle.order.proofs.Bools.{neither}
 use Rattle.limits.specs.Settings.{badSettings}
 use Rattle.fresh.specs.Fresh.{defaultCapacity, freshTable}
 use Rattle.tracker.specs.declared.SequenceTracker.{SequenceTracker}
@@ -25,7 +26,7 @@ use Rattle.decoder.specs.Decode.{listed, countOf, decodeRule}
 use Rattle.decoder.proofs.Stored as stored
 use Rattle.decoder.specs.Decode as decode
 use Rattle.settling.specs.Settle.{lastOf, settledOf}
-use Rattle.restoring.specs.Restore.{readTable, judged, restoreAt}
+use Rattle.restoring.specs.Restore.{readTable, judged, tooShort, restoreAt}
 
 -- what was read into arrays xs and ys, of which n places are values now
 pub record Loaded (bytes xs : List ℕ) (ys : List ℤ) (n : ℕ) : Type 0 where
@@ -108,16 +109,18 @@ module _ (bytes S : List ℕ) (T : List ℤ) (hs : length S ≡ 8192) (ht : leng
           ap refused d ∙ ap (judged interval) (sym e)
 
 -- ---- the rule, by the interval and by the lengths of the lent arrays
+pub places : (m n : ℕ) → tooShort m n ≡ false → (8192 ≤ m) × (8192 ≤ n)
+places m n h =
+    let both = neither (ltb m 8192) (ltb n 8192) h in
+    (omega (arith, ltb-false m 8192 (both .0)), omega (arith, ltb-false n 8192 (both .1)))
+
 module _ (interval : ℕ) (bytes xs : List ℕ) (ys : List ℤ) where
   pub bad-interval : badSettings defaultCapacity interval ≡ true → refused (15 ∷ []) ≡ restoreAt interval bytes xs ys
   bad-interval b = rw b
 
   module _ (v : badSettings defaultCapacity interval ≡ false) where
-    pub short-seqs : length xs < 8192 → refused (14 ∷ []) ≡ restoreAt interval bytes xs ys
-    short-seqs h = rw (v, lt-ltb (length xs) 8192 h)
+    pub too-short : tooShort (length xs) (length ys) ≡ true → refused (14 ∷ []) ≡ restoreAt interval bytes xs ys
+    too-short h = rw (v, h)
 
-    pub short-secs : 8192 ≤ length xs → length ys < 8192 → refused (14 ∷ []) ≡ restoreAt interval bytes xs ys
-    short-secs g h = rw (v, le-ltb (length xs) 8192 g, lt-ltb (length ys) 8192 h)
-
-    pub long : 8192 ≤ length xs → 8192 ≤ length ys → judged interval (readTable bytes) ≡ restoreAt interval bytes xs ys
-    long g h = rw (v, le-ltb (length xs) 8192 g, le-ltb (length ys) 8192 h)
+    pub long : tooShort (length xs) (length ys) ≡ false → judged interval (readTable bytes) ≡ restoreAt interval bytes xs ys
+    long h = rw (v, h)

@@ -1,7 +1,7 @@
 -- Restore: what it tells, and what the lent arrays hold afterwards.
 use Prim.Native.Nat.{ℕ}
 use mathlib.Core.Path.{_≡_}
-use mathlib.Core.Bool.{cond, _||_}
+use mathlib.Core.Bool.{Bool, cond, _||_}
 use mathlib.Core.List.{List, [], _∷_}
 use lib.Dec.{leb, ltb}
 use lib.ListN.{length}
@@ -35,9 +35,13 @@ abbrev pub judged : ℕ → Read Pairs → Told SequenceTracker
 judged interval (read p left) = settledOf interval (p .seqs) (p .secs) (length (p .seqs))
 judged interval (parser.refused what) = refused what
 
--- into two arrays of at least 8,192 places: 14 if one is under that, then the reader's refusals, then 11, 12, 13
+-- an array is under 8,192
+abbrev pub tooShort : ℕ → ℕ → Bool
+tooShort seqs secs = ltb seqs 8192 || ltb secs 8192
+
+-- 14 if an array is under 8,192, then the reader's refusals, then 11, 12, 13
 abbrev pub readInto : ℕ → List ℕ → List ℕ → List ℤ → Told SequenceTracker
-readInto interval bytes seqs secs = cond (ltb (length seqs) 8192 || ltb (length secs) 8192) (refused (14 ∷ [])) (judged interval (readTable bytes))
+readInto interval bytes seqs secs = cond (tooShort (length seqs) (length secs)) (refused (14 ∷ [])) (judged interval (readTable bytes))
 
 -- `restore_with_interval`: 15 for an interval above 2^63-1, before all others
 abbrev pub restoreAt : ℕ → List ℕ → List ℕ → List ℤ → Told SequenceTracker

@@ -1,7 +1,7 @@
 // A table restored from an image, at the default capacity, and at the default interval or at one that is named: an image has neither.
 ghost use mathlib.Core.Path.{_≡_};
 ghost use Rattle.tracker.specs.Refusal.{toldMade};
-ghost use Rattle.restoring.specs.Restore.{toldRestore, Restores, RestoresAt};
+ghost use Rattle.restoring.specs.Restore.{toldRestore, tooShort, Restores, RestoresAt};
 use decoder::Decoded;
 use tracker::Made;
 use tracker::Refusal;
@@ -25,7 +25,17 @@ fn of_made(made: Made) -> Restored
     }
 }
 
-// The Rust's `from_bytes`, whose tables have the interval 60.
+// Whether one of two lent arrays has fewer places than a table of the default capacity has pairs.
+fn too_short(seqs: usize, secs: usize) -> bool
+    ensures { λ r. ⌜ r ≡ tooShort seqs secs ⌝ }
+{
+    if seqs < 8192 {
+        return true;
+    }
+    secs < 8192
+}
+
+// The Rust's `from_bytes`, but for the interval: the Rust gives each table 60.
 pub fn restore(bytes: &[u8], seqs: &mut [u64], secs: &mut [i64]) -> Restored
     ensures { λ r. ⌜ Restores (now (bytes .entry)) (now (seqs .entry)) (now (secs .entry)) r (now (seqs .exit)) (now (secs .exit)) ⌝ }
 {
@@ -42,13 +52,12 @@ pub fn restore_with_interval(
 ) -> Restored
     ensures { λ r. ⌜ RestoresAt «interval_secs» (now (bytes .entry)) (now (seqs .entry)) (now (secs .entry)) r (now (seqs .exit)) (now (secs .exit)) ⌝ }
 {
-    if limits::inner::bad_settings(fresh::DEFAULT_CAPACITY, interval_secs) {
+    let bad_interval = limits::inner::bad_settings(fresh::DEFAULT_CAPACITY, interval_secs);
+    let short = too_short(seqs.len(), secs.len());
+    if bad_interval {
         return Restored::Refused(Refusal::Settings);
     }
-    if seqs.len() < 8192 {
-        return Restored::Refused(Refusal::Disagrees);
-    }
-    if secs.len() < 8192 {
+    if short {
         return Restored::Refused(Refusal::Disagrees);
     }
     let mut own_seqs = [0u64; 8192];

@@ -1,6 +1,6 @@
 -- A table that a restore leaves is sound, whatever bytes it read.
 use mathlib.Core.Path.{_≡_, refl, sym, _∙_}
-use mathlib.Core.Bool.{Bool, true, false, cond, _||_}
+use mathlib.Core.Bool.{Bool, true, false, cond}
 use mathlib.Core.List.{List, [], _∷_}
 use Prim.Native.Nat.{ℕ, _-_, _≤_, _<_, _^_}
 use native.Mathlib.Omega.{arith}
@@ -17,7 +17,7 @@ use Rattle.gorilla.specs.Parser.{Read, read}
 use Rattle.gorilla.specs.Parser as parser
 use Rattle.gorilla.specs.Reading.{Pairs, pairsRead}
 use Rattle.gorilla.proofs.Counts.{image-counts}
-use Rattle.order.proofs.Bools.{neither, not-given, passed}
+use Rattle.order.proofs.Bools.{not-given, passed}
 use Rattle.order.proofs.Order.{itself, int-order}
 use Rattle.limits.specs.Settings.{badSettings}
 use Rattle.fresh.specs.Fresh.{freshTable, defaultCapacity}
@@ -30,7 +30,8 @@ use Rattle.tracker.proofs.Kept.{kept-at, pairs-kept}
 use Rattle.offers.proofs.Rise.{over-length}
 use Rattle.offers.specs.Whole.{whole}
 use Rattle.settling.specs.Settle.{lastOf}
-use Rattle.restoring.specs.Restore.{readTable, judged, readInto, RestoresAt}
+use Rattle.restoring.specs.Restore.{readTable, judged, tooShort, readInto, RestoresAt}
+use Rattle.restoring.proofs.Loading.{places}
 use Rattle.restoring.specs.declared.Restored.the-variants as restored
 use Rattle.theorems.specs.Run.{Lent}
 use Rattle.theorems.proofs.Small.{seqs-small}
@@ -83,9 +84,8 @@ settled (refused l) s t h = absurd (not-given l t h)
 pub restored-sound : (interval : ℕ) (bytes seqs seqs′ : List ℕ) (secs secs′ : List ℤ) (t : SequenceTracker) → RestoresAt interval bytes seqs secs (restored.Table t) seqs′ secs′ → Sound interval (whole t seqs′ secs′)
 restored-sound interval bytes seqs seqs′ secs secs′ t (told, es, et) =
     let named = passed (badSettings defaultCapacity interval) (15 ∷ []) (readInto interval bytes seqs secs) t (sym told) in
-    let short = passed (ltb (length seqs) 8192 || ltb (length secs) 8192) (14 ∷ []) (judged interval (readTable bytes)) t (named .1) in
-    let long = neither (ltb (length seqs) 8192) (ltb (length secs) 8192) (short .0) in
-    rw (es, et) (go (named .0) (readTable bytes) refl (omega (arith, ltb-false (length seqs) 8192 (long .0)), omega (arith, ltb-false (length secs) 8192 (long .1))) (short .1))
+    let short = passed (tooShort (length seqs) (length secs)) (14 ∷ []) (judged interval (readTable bytes)) t (named .1) in
+    rw (es, et) (go (named .0) (readTable bytes) refl (places (length seqs) (length secs) (short .0)) (short .1))
   where
     go : badSettings defaultCapacity interval ≡ false → (r : Read Pairs) → readTable bytes ≡ r → Lent seqs secs → judged interval r ≡ gave t → Sound interval (whole t (over (pairsRead r .seqs) seqs) (over (pairsRead r .secs) secs))
     go valid (read p left) e lent j =

@@ -13,10 +13,11 @@ use Rattle.bits.specs.Read.{readRule}
 use Rattle.gorilla.specs.Parser.{read}
 use Rattle.gorilla.specs.Reading.{Pairs, readCode}
 use Rattle.limits.specs.Settings.{roomOf}
-use Rattle.fresh.specs.Fresh.{freshTable, emptyTable}
+use Rattle.fresh.specs.Fresh.{freshTable, emptyTable, newTable}
 use Rattle.tracker.specs.declared.Seq.{Seq}
 use Rattle.tracker.specs.declared.Second.{Second}
 use Rattle.tracker.specs.declared.TrackedSeq.{TrackedSeq}
+use Rattle.tracker.specs.declared.SequenceTracker.{SequenceTracker}
 use Rattle.tracker.specs.declared.LastRecorded.the-variants.{At}
 use Rattle.lookup.specs.Find.{Partner, partner, nothing, findTs, findSeq}
 use Rattle.lookup.specs.declared.FindOption.{FindOption}
@@ -26,9 +27,10 @@ use Rattle.log.specs.Log.{done, stopped, logOf}
 use Rattle.encoder.specs.Encode.{lenRule, encodeRule, strictRule}
 use Rattle.decoder.specs.Decode.{decodeRule, seqsAfter, secsAfter}
 use Rattle.offers.specs.Whole.{Table}
+use Rattle.restoring.specs.Restore.{restoreOf, restoreAt}
 use Rattle.text.specs.Ascii.{ascii}
 use Rattle.report.specs.Listing.{listingOf}
-use Rattle.theorems.specs.Run.{offered, keptIn, ranTo}
+use Rattle.theorems.specs.Run.{Restoring, plain, naming, offered, reloaded, keptIn, step, ranTo}
 
 -- ---- what goes in
 
@@ -58,6 +60,11 @@ offeredAll capacity interval l =
     ranTo (record { state = emptyTable capacity interval; seqs = lent (roomOf capacity) .seqs; secs = lent (roomOf capacity) .secs })
     (map (λ r. offered (r .seq) (r .ts)) l)
 
+-- a table that is empty but for one pair, saved strictly and restored so
+abbrev pub offeredAndReloaded : ℕ → TrackedSeq → Restoring → Table
+offeredAndReloaded interval r by =
+    step (offeredAll 8192 interval (r ∷ [])) (reloaded (record { by = by; out = buffer; following = []; seqs = lent 8192 .seqs; secs = lent 8192 .secs }))
+
 -- the first n of P8's offers
 abbrev pub firstOf : ℕ → List TrackedSeq
 firstOf n = take n (pair 1 10 ∷ pair 2 20 ∷ pair 3 30 ∷ pair 4 40 ∷ pair 5 50 ∷ [])
@@ -84,6 +91,10 @@ WritesImage l bytes =
 -- `decode` of these bytes into two arrays of so many places
 abbrev pub DecodeTells : ℕ → List ℕ → Told ℕ → Type 0
 DecodeTells room bytes told = decodeRule bytes (lent room .seqs) (lent room .secs) ≡ told
+
+-- `restore_with_interval` of these bytes, with this interval, into two arrays of so many places
+abbrev pub RestoreTells : ℕ → ℕ → List ℕ → Told SequenceTracker → Type 0
+RestoreTells interval room bytes told = restoreAt interval bytes (lent room .seqs) (lent room .secs) ≡ told
 
 -- a table keeps these pairs, and this is the last recorded second
 abbrev pub Keeps : Table → List TrackedSeq → ℕ → Type 0
@@ -155,6 +166,25 @@ pub record Cases : Type 0 where
       Skips tooSoon (offeredAll 8192 60 (pair 1 100 ∷ [])) (pair 2 159)
       × Skips wentBack (offeredAll 8192 60 (pair 1 100 ∷ [])) (pair 2 99)
       × Keeps (offeredAll 8192 60 (pair 1 100 ∷ pair 2 160 ∷ [])) (pair 1 100 ∷ pair 2 160 ∷ []) 160
+  -- the defaults: capacity 8,192 and interval 10; after 100: 109 too soon, 110 recorded
+  pub defaults :
+      (newTable ≡ emptyTable 8192 10)
+      × Skips tooSoon (offeredAll 8192 (newTable .«interval_secs») (pair 1 100 ∷ [])) (pair 2 109)
+      × Keeps (offeredAll 8192 (newTable .«interval_secs») (pair 1 100 ∷ pair 2 110 ∷ [])) (pair 1 100 ∷ pair 2 110 ∷ []) 110
+  -- P5's image restored: interval 10; with an interval that is named, that one
+  pub restored :
+      (restoreOf (fifth 0x00 0x00) (lent 8192 .seqs) (lent 8192 .secs) ≡ gave (freshTable 8192 10 2 (At (second 60))))
+      × RestoreTells 60 8192 (fifth 0x00 0x00) (gave (freshTable 8192 60 2 (At (second 60))))
+      × RestoreTells 9223372036854775807 8192 (fifth 0x00 0x00) (gave (freshTable 8192 9223372036854775807 2 (At (second 60))))
+  -- 15 for an interval of 2^63, before 14 for arrays of 8,191 places, before 1 for no byte
+  pub restore-order :
+      RestoreTells 9223372036854775808 8191 [] (refused (15 ∷ []))
+      × RestoreTells 9223372036854775807 8191 [] (refused (14 ∷ []))
+      × RestoreTells 9223372036854775807 8192 [] (refused (1 ∷ []))
+  -- interval 60, (1,100) saved strictly and restored, then (2,130): too soon if the restore names 60; recorded if it is `restore`, by which the interval became 10
+  pub own-interval :
+      Skips tooSoon (offeredAndReloaded 60 (pair 1 100) (naming 60)) (pair 2 130)
+      × Keeps (step (offeredAndReloaded 60 (pair 1 100) plain) (offered (seqNo 2) (second 130))) (pair 1 100 ∷ pair 2 130 ∷ []) 130
   -- the second equal to the last recorded one: too soon at interval 1, recorded at 0
   pub again :
       Skips tooSoon (offeredAll 4 1 (pair 1 100 ∷ [])) (pair 2 100)
