@@ -11,7 +11,7 @@ pub mod inner;
 
 pub const DEFAULT_CAPACITY: u32 = 8192;
 
-// The Rust has 60, too coarse for models that write in bursts.
+// The Rust has 60, which is too coarse for models that write in short bursts.
 pub const DEFAULT_INTERVAL_SECS: u64 = 10;
 
 // An empty table with the default settings.
