@@ -11,6 +11,9 @@ _Static_assert(sizeof(struct skut_table_answer) == 104 && offsetof(struct skut_t
 
 #define PLACES 8192
 
+/* The table's interval, named where it is made and where it is restored: an image does not have it. skut_new and skut_restore take 10. */
+#define INTERVAL_SECS 60
+
 static uint64_t seqs[PLACES];
 static int64_t secs[PLACES];
 static uint8_t image[9 * PLACES + 21];
@@ -38,7 +41,7 @@ int main(void)
 {
     const uint64_t from_seqs[] = {100, 164, 170, 170, 170, 150};
     const int64_t from_secs[] = {0, 60, 65, 59, 119, 125};
-    struct skut_state table = skut_new().state;
+    struct skut_state table = skut_with_config(PLACES, INTERVAL_SECS).state;
     struct skut_table_answer said = skut_offer_pairs(table, seqs, PLACES, secs, PLACES, from_seqs, 6, from_secs, 6);
     table = kept_of_list(table, said);
     printf("%zu recorded, %zu went back, %zu too soon, refused %u at %llu: %zu pairs\n", said.tally.recorded, said.tally.went_back, said.tally.too_soon,
@@ -66,12 +69,12 @@ int main(void)
     printf("%llu bytes\n", (unsigned long long)saved.a);
 
     /* 4 to 8 tell the place at which the item begins that is not there in full. */
-    said = skut_restore(image, saved.a - 1, seqs, PLACES, secs, PLACES);
+    said = skut_restore_with_interval(image, saved.a - 1, seqs, PLACES, secs, PLACES, INTERVAL_SECS);
     table = kept(table, said);
     printf("one byte less: refused %u at byte %llu, bit %llu: %zu pairs\n", said.answer.number, (unsigned long long)said.answer.byte,
            (unsigned long long)said.answer.bit, table.count);
 
-    said = skut_restore(image, saved.a, seqs, PLACES, secs, PLACES);
+    said = skut_restore_with_interval(image, saved.a, seqs, PLACES, secs, PLACES, INTERVAL_SECS);
     table = kept(table, said);
     struct skut_answer found = skut_find_ts(table, seqs, PLACES, secs, PLACES, 163, SKUT_ROUND_DOWN);
     if (said.answer.number != SKUT_DONE || found.number != SKUT_DONE || found.a != 1) {

@@ -92,7 +92,7 @@ enum {
     SKUT_PREFIX_CUT = 7,        /* the input ends in a code's prefix: array, index; place of the code */
     SKUT_DIFFERENCE_CUT = 8,    /* the input ends in a code's difference: array, index, width of the difference; place of the code */
     SKUT_COUNT_DIFFERS = 9,     /* an array's count is not the header's: array */
-    SKUT_TOO_MANY_PAIRS = 10,   /* an array's count is above the shorter lent array or, in skut_restore, above 8,192: array */
+    SKUT_TOO_MANY_PAIRS = 10,   /* an array's count is above the shorter lent array or, in the two restores, above 8,192: array */
     SKUT_SEQUENCE_DROPS = 11,   /* a sequence is below the one before it: index */
     SKUT_SECOND_DROPS = 12,     /* a second is below the one before it: index */
     SKUT_SECOND_OUTSIDE = 13,   /* a second is outside the years 0001 to 9999: index */
@@ -117,7 +117,7 @@ enum {
 
 /* ---- A table */
 
-/* An empty table of capacity 8,192 and interval 60. Stack: 256 bytes. */
+/* An empty table of the default settings: capacity 8,192 and interval 10, where slatedb's default interval is 60. Stack: 256 bytes. */
 struct skut_table_answer skut_new(void);
 
 /* An empty table: 15. Stack: 256 bytes. */
@@ -155,18 +155,28 @@ struct skut_answer skut_find_seq(struct skut_state state, const uint64_t *seqs, 
  * they read back as other pairs: (0, 0), (2^33, 60) come back as (0, 0), (0, 60). Stack: 640 bytes. */
 struct skut_answer skut_save(struct skut_state state, const uint64_t *seqs, size_t seqs_len, const int64_t *secs, size_t secs_len, uint8_t *out, size_t out_len);
 
-/* The same, but an image that would read back as other pairs is refused: 20, 21. The table comes back from skut_restore as it was if it has the default
- * settings (capacity 8,192, interval 60), was made by skut_new or skut_restore and by offers alone, and nobody changes the bytes. Else its pairs
- * come back as long as the bytes are the same, and the rest may differ, since the image has neither the settings nor the last recorded second:
- * - capacity 3, interval 0, and (1, 10), (2, 20), (3, 30), (4, 40) offered: `last` is 40, and comes back as 30, with the default settings;
+/* The same, but an image that would read back as other pairs is refused: 20, 21. The table comes back as it was from skut_restore_with_interval with the
+ * table's own interval, if its capacity is 8,192, it was made by skut_new, skut_with_config or a restore and by offers alone, and nobody changes the bytes.
+ * At the default interval, 10, it does from skut_restore, too. Else its pairs come back as long as the bytes are the same, and the rest may differ, since the
+ * image has neither the settings nor the last recorded second:
+ * - capacity 8,192, interval 60, and (5, 100) offered: it comes back from skut_restore with interval 10, and records (6, 110), which came too soon before;
+ * - capacity 3, interval 0, and (1, 10), (2, 20), (3, 30), (4, 40) offered: `last` is 40, and comes back as 30, with capacity 8,192, from skut_restore with
+ *   interval 10, and from skut_restore_with_interval with the one that is named;
  * - a state that no call made, with count 1, the default settings and `last` 20, and the pair (1, 10): 14 accepts it, and `last` comes back as 10.
  * Nor has it a checksum: bytes that were changed may read as another table, with no refusal. Stack: 640 bytes. */
 struct skut_answer skut_save_strict(struct skut_state state, const uint64_t *seqs, size_t seqs_len, const int64_t *secs, size_t secs_len, uint8_t *out, size_t out_len);
 
-/* The table of an image, of capacity 8,192 and interval 60, its pairs in arrays of at least 8,192 places, its last recorded second that of the last
- * pair: 14, 1 to 10, 11 to 13; 4 to 8 with their place. Bytes after the image are ignored. skut_save_strict says when this is the table that was saved. Stack: 133,120 bytes; and, at its
- * first call in a program that is linked without -z now, what the dynamic linker takes to find memset and memcpy: 134,816 bytes in all were measured. */
+/* The table of an image, of capacity 8,192 and interval 10, its pairs in arrays of at least 8,192 places, its last recorded second that of the last
+ * pair: 14, 1 to 10, 11 to 13; 4 to 8 with their place. Bytes after the image are ignored. The arrays' places from `count` on keep what they held.
+ * skut_save_strict says when this is the table that was saved. Stack: 133,120 bytes; and, in a program that is linked without -z now, until a call has found
+ * memset and memcpy, what the dynamic linker takes to find them, which differs by machine: 134,672 bytes in all were measured on one. */
 struct skut_table_answer skut_restore(const uint8_t *bytes, size_t bytes_len, uint64_t *seqs, size_t seqs_len, int64_t *secs, size_t secs_len);
+
+/* The same, of the interval that is named: 15 where that is above 2^63-1, before all else; then as skut_restore, which is this with 10. An image has no
+ * interval, so name the one that the table had: 60, where it is slatedb's and has its defaults. Stack: 133,120 bytes; until memset and memcpy are found, as in
+ * skut_restore, 134,696 bytes in all were measured. */
+struct skut_table_answer skut_restore_with_interval(const uint8_t *bytes, size_t bytes_len, uint64_t *seqs, size_t seqs_len, int64_t *secs, size_t secs_len,
+                                                    uint64_t interval_secs);
 
 /* ---- Images of two arrays, with no table */
 

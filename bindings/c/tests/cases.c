@@ -54,6 +54,24 @@ int same_state(struct skut_state one, struct skut_state other)
            one.last == other.last;
 }
 
+#define HELD 0x5555555555555555
+
+void hold(uint64_t *seqs, int64_t *secs)
+{
+    for (size_t i = 0; i < PLACES; i++) {
+        seqs[i] = HELD;
+        secs[i] = HELD;
+    }
+}
+
+int held_from(size_t place, const uint64_t *seqs, const int64_t *secs)
+{
+    while (place < PLACES && seqs[place] == HELD && secs[place] == HELD) {
+        place++;
+    }
+    return place >= PLACES;
+}
+
 static int same_tally(struct skut_tally one, struct skut_tally other)
 {
     return one.recorded == other.recorded && one.went_back == other.went_back && one.too_soon == other.too_soon;
@@ -65,8 +83,9 @@ static void has_state(const char *call, const char *when, struct skut_table_answ
 {
     struct skut_answer due = {number, a, 0, 0, 0, 0};
     int truth = same(got.answer, due) && same_tally(got.tally, tally) && same_state(got.state, state);
-    holds(call, when, truth, "expected %s, and it is %s, %zu recorded, %zu went back, %zu too soon, count %zu, last %lld", shown(due), shown(got.answer),
-          got.tally.recorded, got.tally.went_back, got.tally.too_soon, got.state.count, (long long)got.state.last);
+    holds(call, when, truth, "expected %s, and it is %s, %zu recorded, %zu went back, %zu too soon, count %zu, capacity %u, interval %llu, last %lld", shown(due),
+          shown(got.answer), got.tally.recorded, got.tally.went_back, got.tally.too_soon, got.state.count, got.state.capacity,
+          (unsigned long long)got.state.interval_secs, (long long)got.state.last);
 }
 
 void gives(const char *call, const char *when, struct skut_table_answer got, struct skut_tally tally, struct skut_state state)

@@ -6,6 +6,10 @@
 
 #define PLACES 8192
 
+/* The first and the last second of the years 0001 to 9999. */
+#define FIRST_SECOND (-INT64_C(62135596800))
+#define LAST_SECOND INT64_C(253402300799)
+
 /* A pointer and its length: no values. */
 #define NONE NULL, 0
 
@@ -39,11 +43,16 @@ const char *taken_by(struct skut_state state);
 
 int same_state(struct skut_state one, struct skut_state other);
 
+/* Fills two arrays of PLACES places with a value that no case stores, and gives whether they still hold it from a place on. */
+void hold(uint64_t *seqs, int64_t *secs);
+int held_from(size_t place, const uint64_t *seqs, const int64_t *secs);
+
 void null_cases(void);
 void refused_cases(void);
 void claim_cases(void);
 void reason_cases(void);
 void place_cases(void);
+void interval_cases(void);
 
 /* Prints `N passed, M failed`, and gives whether nothing failed. */
 int all_passed(void);

@@ -1,8 +1,6 @@
 /* What the header says of saves, restores, lookups and sign extension: when a table comes back as it was, small ones that do not, which key answers, and which signed number bits are. */
 #include "cases.h"
 
-#include <string.h>
-
 static uint64_t seqs[PLACES];
 static int64_t secs[PLACES];
 static uint8_t image[64];
@@ -22,9 +20,14 @@ static void pairs(const char *call, const char *when, const uint64_t *q, const i
 /* The arrays hold nothing of what was saved when the image is restored. */
 static struct skut_table_answer restored(size_t length)
 {
-    memset(seqs, 0xAA, sizeof seqs);
-    memset(secs, 0xAA, sizeof secs);
+    hold(seqs, secs);
     return skut_restore(image, length, ARRAYS);
+}
+
+static struct skut_table_answer restored_at(uint64_t interval_secs, size_t length)
+{
+    hold(seqs, secs);
+    return skut_restore_with_interval(image, length, ARRAYS, interval_secs);
 }
 
 static void as_it_was(void)
@@ -46,26 +49,46 @@ static void other_settings(void)
 {
     const uint64_t q[] = {1, 2, 3, 4}, kept_q[] = {1, 3};
     const int64_t s[] = {10, 20, 30, 40}, kept_s[] = {10, 30};
-    struct skut_state saved = {2, 3, 1, 0, 40}, back = {2, PLACES, 1, 60, 30};
+    struct skut_state saved = {2, 3, 1, 0, 40}, back = {2, PLACES, 1, 10, 30}, back_at_0 = {2, PLACES, 1, 0, 30};
     struct skut_table_answer table = skut_offer_pairs(skut_with_config(3, 0).state, ARRAYS, q, 4, s, 4);
     gives("skut_offer_pairs", "capacity 3 drops the newest pair", table, TALLY(.recorded = 4), saved);
     pairs("skut_offer_pairs", "capacity 3 keeps two pairs", kept_q, kept_s, 2);
     struct skut_answer written = skut_save_strict(table.state, ARRAYS, image, sizeof image);
     gives("skut_restore", "capacity 3 comes back with last 30 and the default settings", restored(written.a), NO_PAIR, back);
     pairs("skut_restore", "capacity 3 comes back with the pairs", kept_q, kept_s, 2);
+    gives("skut_restore_with_interval", "capacity 3 comes back with last 30 and capacity 8,192", restored_at(0, written.a), NO_PAIR, back_at_0);
+    pairs("skut_restore_with_interval", "capacity 3 comes back with the pairs", kept_q, kept_s, 2);
+}
+
+/* Restored at another interval than its own, a table has the same pairs, and takes an offer that came too soon. */
+static void other_interval(void)
+{
+    const uint64_t q[] = {5, 6};
+    const int64_t s[] = {100, 110};
+    struct skut_state table = skut_offer(skut_with_config(PLACES, 60).state, ARRAYS, 5, 100).state, back = {1, PLACES, 1, 10, 100}, after = {2, PLACES, 1, 10, 110};
+    gives("skut_offer", "110 after 100 is too soon at interval 60", skut_offer(table, ARRAYS, 6, 110), TALLY(.too_soon = 1), table);
+    struct skut_answer written = skut_save_strict(table, ARRAYS, image, sizeof image);
+    gives("skut_restore_with_interval", "interval 60 comes back as it was", restored_at(60, written.a), NO_PAIR, table);
+    pairs("skut_restore_with_interval", "interval 60 comes back with the pair", q, s, 1);
+    gives("skut_offer", "110 is too soon again", skut_offer(table, ARRAYS, 6, 110), TALLY(.too_soon = 1), table);
+    gives("skut_restore", "interval 60 comes back as 10", restored(written.a), NO_PAIR, back);
+    pairs("skut_restore", "interval 60 comes back with the pair", q, s, 1);
+    gives("skut_offer", "110, which was too soon, is recorded", skut_offer(back, ARRAYS, 6, 110), TALLY(.recorded = 1), after);
+    pairs("skut_offer", "110, which was too soon, is kept", q, s, 2);
 }
 
 static void own_state(void)
 {
     const uint64_t q[] = {1};
     const int64_t s[] = {10};
-    struct skut_state made = {1, PLACES, 1, 60, 20}, back = {1, PLACES, 1, 60, 10};
+    struct skut_state made = {1, PLACES, 1, 10, 20}, back = {1, PLACES, 1, 10, 10};
     seqs[0] = 1;
     secs[0] = 10;
     answers("skut_check", "last 20 above the last pair", skut_check(made, ARRAYS), SKUT_DONE, 0, 0, 0);
     answers("skut_save_strict", "last 20 above the last pair", skut_save_strict(made, ARRAYS, image, sizeof image), SKUT_DONE, 29, 0, 0);
     gives("skut_restore", "last 20 comes back as 10", restored(29), NO_PAIR, back);
     pairs("skut_restore", "last 20 comes back with the pair", q, s, 1);
+    gives("skut_restore_with_interval", "last 20 comes back as 10, also at the own interval", restored_at(made.interval_secs, 29), NO_PAIR, back);
 }
 
 static void plain_save(void)
@@ -118,6 +141,7 @@ void claim_cases(void)
 {
     as_it_was();
     other_settings();
+    other_interval();
     own_state();
     plain_save();
     lookups();

@@ -11,5 +11,6 @@ int main(void)
     claim_cases();
     reason_cases();
     place_cases();
+    interval_cases();
     return all_passed() ? 0 : 1;
 }

@@ -46,11 +46,14 @@ static void bad_tables(struct skut_state table, const struct lending *lent)
     answers("skut_save_strict, output NULL", lent->name, skut_save_strict(table, LENT, NONE), SKUT_STATE_DISAGREES, 0, 0, 0);
     gives_none("skut_restore", lent->name, skut_restore(empty, sizeof empty, LENT), SKUT_STATE_DISAGREES, 0);
     gives_none("skut_restore of NULL", lent->name, skut_restore(NONE, LENT), SKUT_STATE_DISAGREES, 0);
+    gives_none("skut_restore_with_interval", lent->name, skut_restore_with_interval(empty, sizeof empty, LENT, 60), SKUT_STATE_DISAGREES, 0);
+    gives_none("skut_restore_with_interval of NULL", lent->name, skut_restore_with_interval(NONE, LENT, 60), SKUT_STATE_DISAGREES, 0);
+    gives_none("skut_restore_with_interval, 15 first", lent->name, skut_restore_with_interval(NONE, LENT, UINT64_MAX), SKUT_SETTINGS, 0);
 }
 
 static void good_tables(struct skut_state table)
 {
-    struct skut_state as_new = {0, PLACES, 0, 60, 0}, least = {0, 0, 0, 0, 0};
+    struct skut_state as_new = {0, PLACES, 0, 10, 0}, least = {0, 0, 0, 0, 0};
     gives("skut_new", "has no slice", skut_new(), NO_PAIR, as_new);
     gives("skut_with_config", "has no slice", skut_with_config(0, 0), NO_PAIR, least);
     answers("skut_check", "an empty table in room", skut_check(table, ROOM), SKUT_DONE, 0, 0, 0);
@@ -90,6 +93,7 @@ static void readers(void)
     answers("skut_decode", "the bytes NULL", skut_decode(NONE, ROOM), SKUT_EMPTY, 0, 0, 0);
     answers("skut_image_len", "the bytes NULL", skut_image_len(NONE), SKUT_EMPTY, 0, 0, 0);
     gives_none("skut_restore", "the bytes NULL", skut_restore(NONE, ROOM), SKUT_EMPTY, 0);
+    gives_none("skut_restore_with_interval", "the bytes NULL", skut_restore_with_interval(NONE, ROOM, 60), SKUT_EMPTY, 0);
 }
 
 static void lists(const struct lending *lent)

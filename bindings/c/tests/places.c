@@ -9,7 +9,6 @@ static int64_t secs[PLACES];
 static uint8_t image[64];
 
 #define ARRAYS seqs, PLACES, secs, PLACES
-#define HELD 0x5555555555555555
 
 /* The bytes of an array that the input ends in: so many, of its count in 4 bytes, the first value 0 in 8, and codes. */
 struct ending {
@@ -60,16 +59,6 @@ static size_t array(size_t at, const struct ending *ending, size_t length, const
     return at + length;
 }
 
-static int as_held(void)
-{
-    for (size_t i = 0; i < PLACES; i++) {
-        if (seqs[i] != HELD || secs[i] != HELD) {
-            return 0;
-        }
-    }
-    return 1;
-}
-
 /* The input of an ending, by every call that reads an image. For the seconds the sequences are whole, each 0: a bit for each but the first. */
 static void ends(const struct ending *ending, const char *name, uint64_t which)
 {
@@ -83,13 +72,13 @@ static void ends(const struct ending *ending, const char *name, uint64_t which)
     image[1] = ending->count;
     size_t length = array(array(header, ending, sequences, NULL), ending, ending->length, ending->codes);
     snprintf(when, sizeof when, "the %s end with %s", name, ending->when);
-    memset(seqs, 0x55, sizeof seqs);
-    memset(secs, 0x55, sizeof secs);
+    hold(seqs, secs);
     answers_all("skut_decode", when, skut_decode(image, length, ARRAYS), due);
     answers_all("skut_image_len", when, skut_image_len(image, length), due);
-    struct skut_table_answer restored = skut_restore(image, length, ARRAYS);
-    holds("skut_decode, skut_restore, the arrays", when, as_held(), "they hold other values");
+    struct skut_table_answer restored = skut_restore(image, length, ARRAYS), at_60 = skut_restore_with_interval(image, length, ARRAYS, 60);
+    holds("skut_decode, the two restores, the arrays", when, held_from(0, seqs, secs), "they hold other values");
     gives_none_all("skut_restore", when, restored, due);
+    gives_none_all("skut_restore_with_interval", when, at_60, due);
 }
 
 /* Every other refusal of a reader tells no place. */

@@ -3,9 +3,6 @@
 
 #include <string.h>
 
-#define FIRST_SECOND (-INT64_C(62135596800))
-#define LAST_SECOND INT64_C(253402300799)
-
 #define RECORDED TALLY(.recorded = 1)
 #define WENT_BACK TALLY(.went_back = 1)
 #define TOO_SOON TALLY(.too_soon = 1)
@@ -44,8 +41,7 @@ static void as_due(const char *call, const char *when)
 /* A table after these pairs, in arrays that hold other values past them. */
 static struct skut_state made(uint32_t capacity, uint64_t interval_secs, const uint64_t *q, const int64_t *s, size_t n)
 {
-    memset(seqs, 0xAA, sizeof seqs);
-    memset(secs, 0xAA, sizeof secs);
+    hold(seqs, secs);
     struct skut_state table = skut_offer_pairs(skut_with_config(capacity, interval_secs).state, ARRAYS, q, n, s, n).state;
     due_as_now();
     return table;
@@ -112,7 +108,7 @@ static void last_recorded(void)
     offered("45 is recorded", made(3, 0, q, s, 4), 3, 45, RECORDED);
 }
 
-/* An image has the last kept second, and not the last recorded one. */
+/* An image has the last kept second, and not the last recorded one; it has no interval, which is the one that is named, or 10. */
 static void restored(void)
 {
     const uint64_t q[] = {1, 2, 3, 4};
@@ -123,7 +119,13 @@ static void restored(void)
     due_as_now();
     offered("restored: 29, below the last kept second, went back", table, 9, 29, WENT_BACK);
     offered("restored: 39, which went back before, is too soon", table, 9, 39, TOO_SOON);
-    offered("restored: 90 is recorded", table, 9, 90, RECORDED);
+    offered("restored: 40 is recorded", table, 9, 40, RECORDED);
+    table = skut_restore_with_interval(image, saved.a, ARRAYS, 60).state;
+    due_as_now();
+    offered("restored at interval 60: 29, below the last kept second, went back", table, 9, 29, WENT_BACK);
+    offered("restored at interval 60: 39, which went back before, is too soon", table, 9, 39, TOO_SOON);
+    offered("restored at interval 60: 89 is too soon", table, 9, 89, TOO_SOON);
+    offered("restored at interval 60: 90 is recorded", table, 9, 90, RECORDED);
 }
 
 /* 16 comes before the skip, and 17 after it. */

@@ -53,7 +53,10 @@ static void without_state(struct skut_state good, struct skut_state fresh)
     gives_none("skut_offer_pairs", "18 has no state", skut_offer_pairs(good, KEPT, one, 1, NONE), SKUT_LENGTHS_DIFFER, 0);
     gives_none("skut_extend_from", "14 of the own table has no state", skut_extend_from(bad, KEPT, fresh, OTHER), SKUT_STATE_DISAGREES, 0);
     gives_none("skut_extend_from", "14 of the other table has no state", skut_extend_from(good, KEPT, bad, OTHER), SKUT_STATE_DISAGREES, 1);
-    gives_none_all("skut_restore", "4 has no state", skut_restore(cut, sizeof cut, KEPT), (struct skut_answer){SKUT_COUNT_CUT, .a = 1, .byte = 9});
+    struct skut_answer count_cut = {SKUT_COUNT_CUT, .a = 1, .byte = 9};
+    gives_none_all("skut_restore", "4 has no state", skut_restore(cut, sizeof cut, KEPT), count_cut);
+    gives_none_all("skut_restore_with_interval", "4 has no state", skut_restore_with_interval(cut, sizeof cut, KEPT, good.interval_secs), count_cut);
+    gives_none("skut_restore_with_interval", "15 has no state", skut_restore_with_interval(cut, sizeof cut, KEPT, UINT64_MAX), SKUT_SETTINGS, 0);
 }
 
 /* Tables whose kept pairs are refused. */

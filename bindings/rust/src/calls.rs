@@ -56,6 +56,11 @@ pub fn restore(bytes: &[u8], seqs: &mut [u64], secs: &mut [i64]) -> TableAnswer 
     unsafe { sys::skut_restore(bytes.as_ptr(), bytes.len(), seqs.as_mut_ptr(), seqs.len(), secs.as_mut_ptr(), secs.len()) }
 }
 
+pub fn restore_with_interval(bytes: &[u8], seqs: &mut [u64], secs: &mut [i64], interval_secs: u64) -> TableAnswer {
+    let (s, n, z, m) = (seqs.as_mut_ptr(), seqs.len(), secs.as_mut_ptr(), secs.len());
+    unsafe { sys::skut_restore_with_interval(bytes.as_ptr(), bytes.len(), s, n, z, m, interval_secs) }
+}
+
 pub fn encoded_len(seqs: &[u64], secs: &[i64]) -> Answer {
     unsafe { sys::skut_encoded_len(seqs.as_ptr(), seqs.len(), secs.as_ptr(), secs.len()) }
 }

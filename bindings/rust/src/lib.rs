@@ -1,8 +1,10 @@
 //! Which second does a stored sequence number belong to? slatedb's `SequenceTracker`, over a library of which every function is proved. This crate itself is
 //! not proved; it is tested against the library.
 //!
-//! A table at the default settings (capacity 8,192, interval 60), made by [`SequenceTracker::new`] or [`SequenceTracker::from_bytes`] and by offers alone, and
-//! saved by [`SequenceTracker::to_bytes_strict`], cannot come back from bytes that nobody changed other than it was saved without an error.
+//! A table at the default settings (capacity 8,192, interval 10), made by [`SequenceTracker::new`] or [`SequenceTracker::from_bytes`] and by offers alone, and
+//! saved by [`SequenceTracker::to_bytes_strict`], cannot come back from bytes that nobody changed other than it was saved without an error. The same holds of a
+//! table of capacity 8,192 and any interval where [`SequenceTracker::from_bytes_with_interval`] names its interval: the bytes have none. slatedb's default
+//! interval is 60; a program that moves over from there names it.
 //!
 //! ```no_run
 //! use skutlaneb::{FindOption, Second, Seq, SequenceTracker, TrackedSeq};

@@ -20,9 +20,10 @@ pub use pairs::Pairs;
 ///
 /// # Storage
 ///
-/// A table at the default settings (capacity 8,192, interval 60), made by [`SequenceTracker::new`] or [`SequenceTracker::from_bytes`] and by offers alone, is
-/// refused by [`SequenceTracker::to_bytes_strict`], or its bytes, if nobody changes them, come back with the same pairs, settings and last recorded second.
-/// Where one of these conditions fails, another table may come back without an error: the three calls of storage have an example each.
+/// A table of capacity 8,192 and any interval, made by [`SequenceTracker::new`], [`SequenceTracker::with_config`] or the reading of bytes and by offers alone, is
+/// refused by [`SequenceTracker::to_bytes_strict`], or its bytes, if nobody changes them, come back with the same pairs, settings and last recorded second,
+/// where [`SequenceTracker::from_bytes_with_interval`] names the table's own interval; at the default one, 10, [`SequenceTracker::from_bytes`] does that.
+/// Where one of these conditions fails, another table may come back without an error: the four calls of storage have an example each.
 ///
 /// # What a call costs
 ///
@@ -43,13 +44,14 @@ pub struct SequenceTracker {
 }
 
 impl SequenceTracker {
-    /// An empty table of capacity 8,192 and an interval of 60 seconds.
+    /// An empty table of capacity 8,192 and an interval of 10 seconds. slatedb's default interval is 60: `with_config(8192, 60)` has the settings of slatedb's
+    /// `new`.
     pub fn new() -> SequenceTracker {
         SequenceTracker::empty(calls::new().state)
     }
 
-    /// An empty table with other settings: refused (15) where the capacity is above 8,192 or the interval above 2^63-1. Storage does not keep them:
-    /// [`SequenceTracker::to_bytes_strict`] has an example.
+    /// An empty table with other settings: refused (15) where the capacity is above 8,192 or the interval above 2^63-1. Storage keeps neither: a table comes back
+    /// with capacity 8,192, and with the interval that [`SequenceTracker::from_bytes_with_interval`] names. [`SequenceTracker::to_bytes_strict`] has an example.
     pub fn with_config(capacity: u32, interval_secs: u64) -> Result<SequenceTracker, Error> {
         let made = calls::with_config(capacity, interval_secs);
         calls::done(made.answer)?;

@@ -1,4 +1,5 @@
 //! Images: written, read back, damaged.
+use crate::chance::Chance;
 use crate::run::Case;
 use crate::tables::{kept, pair, table};
 use skutlaneb::bits::Place;
@@ -29,21 +30,29 @@ fn empty() {
 }
 
 fn two_pairs() {
-    let tracker = table(8192, 60, &[(100, 0), (164, 60)]);
+    let tracker = table(8192, 10, &[(100, 0), (164, 60)]);
     assert_eq!(tracker.to_bytes().unwrap(), TWO_PAIRS);
     assert_eq!(tracker.to_bytes_strict().unwrap(), TWO_PAIRS);
     assert_eq!(SequenceTracker::from_bytes(&TWO_PAIRS).unwrap(), tracker);
     assert_eq!(SequenceTracker::try_from(&TWO_PAIRS[..]), Ok(tracker));
+    // The interval is not in the bytes.
+    let at_60 = table(8192, 60, &[(100, 0), (164, 60)]);
+    assert_eq!((at_60.to_bytes().unwrap(), at_60.to_bytes_strict().unwrap()), (TWO_PAIRS.to_vec(), TWO_PAIRS.to_vec()));
+    assert_eq!(SequenceTracker::from_bytes_with_interval(&TWO_PAIRS, 60), Ok(at_60));
     assert_eq!(SequenceTracker::try_from(&TWO_PAIRS[..4]), Err(Error::HeaderCut));
 }
 
 fn goes_on() {
-    let mut restored = SequenceTracker::from_bytes(&TWO_PAIRS).unwrap();
-    assert_eq!((restored.capacity(), restored.interval_secs()), (8192, 60));
-    assert_eq!(restored.insert(pair(170, 119)), Ok(Inserted::TooSoon));
-    assert_eq!(restored.insert(pair(163, 120)), Err(Error::OfferedDrops));
-    assert_eq!(restored.insert(pair(164, 120)), Ok(Inserted::Recorded));
-    assert_eq!(kept(&restored), [(100, 0), (164, 60), (164, 120)]);
+    let plain = SequenceTracker::from_bytes(&TWO_PAIRS).unwrap();
+    let at_60 = SequenceTracker::from_bytes_with_interval(&TWO_PAIRS, 60).unwrap();
+    for (mut restored, interval_secs) in [(plain, 10), (at_60, 60)] {
+        let next = 60 + interval_secs as i64;
+        assert_eq!((restored.capacity(), restored.interval_secs()), (8192, interval_secs));
+        assert_eq!(restored.insert(pair(170, next - 1)), Ok(Inserted::TooSoon));
+        assert_eq!(restored.insert(pair(163, next)), Err(Error::OfferedDrops));
+        assert_eq!(restored.insert(pair(164, next)), Ok(Inserted::Recorded));
+        assert_eq!(kept(&restored), [(100, 0), (164, 60), (164, next)]);
+    }
 }
 
 fn strict() {
@@ -65,18 +74,24 @@ fn greatest() {
 }
 
 fn between_offers() {
-    let (mut stored, mut held) = (SequenceTracker::new(), SequenceTracker::new());
+    assert!(kept_between(SequenceTracker::new(), SequenceTracker::from_bytes) > 400);
+    assert!(kept_between(table(8192, 60, &[]), |bytes| SequenceTracker::from_bytes_with_interval(bytes, 60)) > 200);
+}
+
+/// Offers to a table, with a save and a restore after each, and to one that is not saved: how many pairs both keep.
+fn kept_between(empty: SequenceTracker, restore: fn(&[u8]) -> Result<SequenceTracker, Error>) -> usize {
+    let (mut stored, mut held) = (empty.clone(), empty);
     let (mut seq, mut second) = (1u64, -5i64);
     for i in 0..600u64 {
         seq += i * 37 % 91;
         second += (i * 53 % 97) as i64;
         assert_eq!(stored.insert(pair(seq, second)), held.insert(pair(seq, second)));
-        stored = SequenceTracker::from_bytes(&stored.to_bytes_strict().unwrap()).unwrap();
+        stored = restore(&stored.to_bytes_strict().unwrap()).unwrap();
         assert_eq!(stored, held);
         assert_eq!(stored.last_recorded(), held.last_recorded());
         assert_eq!(stored.find_ts(seq / 2, FindOption::RoundUp), held.find_ts(seq / 2, FindOption::RoundUp));
     }
-    assert!(held.len() > 200);
+    held.len()
 }
 
 fn cut() {
@@ -138,18 +153,13 @@ fn too_many() {
 
 /// Bytes of chance, and one byte of an image another: what is restored saves to an image that is restored to the same.
 fn any_bytes() {
-    let mut state = 20_160_101u64;
-    let mut chance = || {
-        state ^= state << 13;
-        state ^= state >> 7;
-        state ^= state << 17;
-        state
-    };
+    let mut chance = Chance(20_160_101);
     let mut restored = 0;
     for _ in 0..20_000 {
         let mut image = TWO_PAIRS.to_vec();
-        image[chance() as usize % TWO_PAIRS.len()] = chance() as u8;
-        image.truncate(TWO_PAIRS.len() + 1 - chance() as usize % 3);
+        let byte = chance.number() as u8;
+        image[chance.below(TWO_PAIRS.len() as u64) as usize] = byte;
+        image.truncate(TWO_PAIRS.len() + 1 - chance.below(3) as usize);
         if let Ok(tracker) = SequenceTracker::from_bytes(&image) {
             restored += 1;
             if let Ok(saved) = tracker.to_bytes_strict() {

@@ -103,13 +103,13 @@ fn apart() {
     fn restored(bytes: &[u8], pairs: &[TrackedSeq]) -> Result<Tally, ListError> {
         SequenceTracker::from_bytes(bytes)?.insert_all(pairs)
     }
-    let bytes = table(8192, 60, &[(5, 0)]).to_bytes_strict().unwrap();
-    assert_eq!(restored(&bytes, &[pair(6, 60)]), Ok(Tally { recorded: 1, went_back: 0, too_soon: 0 }));
+    let bytes = table(8192, 10, &[(5, 0)]).to_bytes_strict().unwrap();
+    assert_eq!(restored(&bytes, &[pair(6, 9), pair(6, 10)]), Ok(Tally { recorded: 1, went_back: 0, too_soon: 1 }));
     let cut = restored(&bytes[..4], &[]).unwrap_err();
     assert_eq!((cut, cut.number()), (ListError::Apart(Error::HeaderCut), 3));
     assert_eq!(cut.source().and_then(|source| source.downcast_ref()), Some(&Error::HeaderCut));
     assert_eq!(cut.to_string(), "a call apart from the list was refused");
-    assert!(matches!(restored(&bytes, &[pair(4, 60)]), Err(ListError::Stopped { at: 0, .. })));
+    assert!(matches!(restored(&bytes, &[pair(4, 10)]), Err(ListError::Stopped { at: 0, .. })));
 }
 
 fn stopped_at_1() -> ListError {

@@ -2,15 +2,18 @@
 #![no_main]
 mod arrays;
 mod bits;
+mod chance;
 mod claims;
 mod errors;
 mod images;
+mod intervals;
 mod lists;
 mod pairs;
 mod places;
 mod raw;
 mod reasons;
 mod run;
+mod runs;
 mod stack;
 mod tables;
 mod times;
@@ -18,7 +21,8 @@ mod values;
 
 #[no_mangle]
 pub extern "C" fn main(_argc: i32, _argv: *const *const u8) -> i32 {
-    let tracker = [tables::CASES, pairs::CASES, lists::CASES, reasons::CASES, images::CASES, places::CASES, claims::CASES];
+    let tracker = [tables::CASES, pairs::CASES, lists::CASES, reasons::CASES];
+    let stored = [images::CASES, intervals::CASES, places::CASES, claims::CASES, runs::CASES];
     let others = [values::CASES, times::CASES, errors::CASES, arrays::CASES, bits::CASES, raw::CASES, stack::CASES];
-    run::run(&[tracker.concat(), others.concat()].concat())
+    run::run(&[tracker.concat(), stored.concat(), others.concat()].concat())
 }

@@ -21,6 +21,7 @@ fn read(bytes: &[u8]) -> Error {
     assert_eq!(image_len(bytes), Err(refused));
     assert_eq!(decode_pairs(bytes), Err(refused));
     assert_eq!(SequenceTracker::from_bytes(bytes), Err(refused));
+    assert_eq!(SequenceTracker::from_bytes_with_interval(bytes, 60), Err(refused));
     refused
 }
 
@@ -226,6 +227,7 @@ fn placeless() {
             if answer.number != 0 {
                 assert_eq!(sys::skut_decode(bytes.as_ptr(), bytes.len(), s, 2, z, 2), answer);
                 assert_eq!(sys::skut_restore(bytes.as_ptr(), bytes.len(), s, 8192, z, 8192).answer, answer);
+                assert_eq!(sys::skut_restore_with_interval(bytes.as_ptr(), bytes.len(), s, 8192, z, 8192, 60).answer, answer);
             }
         }
         let (bytes, length) = (whole.as_ptr(), whole.len());
@@ -233,6 +235,9 @@ fn placeless() {
         assert_eq!(sys::skut_decode(bytes, length, s, 2, z, 2), told(0, 2, 0));
         assert_eq!(sys::skut_restore(bytes, length, s, 8191, z, 8192).answer, told(14, 0, 0));
         assert_eq!(sys::skut_restore(bytes, length, s, 8192, z, 8192).answer, told(0, 0, 0));
+        for (n, interval_secs, number) in [(8191, 60, 14), (8191, 1 << 63, 15), (8192, 1 << 63, 15), (8192, 60, 0)] {
+            assert_eq!(sys::skut_restore_with_interval(bytes, length, s, n, z, 8192, interval_secs).answer, told(number, 0, 0));
+        }
         assert_eq!(sys::skut_read_bits(bytes, length, 32, 0, 9), told(24, 8, 0));
         assert_eq!(sys::skut_read_bits(bytes, length, 0, 0, 65), told(23, 0, 0));
         assert_eq!(sys::skut_encode(s, 2, z, 2, null_out(), 0), told(21, 33, 0));

@@ -27,6 +27,9 @@ fn no_memory() {
     unsafe {
         let state = sys::skut_new().state;
         assert_eq!(sys::skut_restore(null(), 0, null_mut(), 0, null_mut(), 0).answer.number, 14);
+        for (interval_secs, number) in [(60, 14), (1 << 63, 15)] {
+            assert_eq!(sys::skut_restore_with_interval(null(), 0, null_mut(), 0, null_mut(), 0, interval_secs).answer.number, number);
+        }
         assert_eq!(sys::skut_check(state, null(), 0, null(), 0).number, 14);
         assert_eq!(sys::skut_decode(null(), 0, null_mut(), 0, null_mut(), 0).number, 1);
         assert_eq!(sys::skut_encoded_len(null(), 0, null(), 0), Answer { a: 13, ..Answer::default() });

@@ -56,9 +56,15 @@ fn last_recorded() {
 
 fn restored() {
     let mut saved = table(3, 0, &[(1, 10), (2, 20), (3, 30), (4, 40)]);
-    let mut back = SequenceTracker::from_bytes(&saved.to_bytes_strict().unwrap()).unwrap();
-    assert_eq!((saved.insert(pair(9, 39)), back.insert(pair(9, 39))), (Ok(WentBack), Ok(TooSoon)));
-    assert_eq!([29, 30, 89, 90].map(|second| back.insert(pair(9, second))), [Ok(WentBack), Ok(TooSoon), Ok(TooSoon), Ok(Recorded)]);
+    let image = saved.to_bytes_strict().unwrap();
+    assert_eq!(saved.insert(pair(9, 39)), Ok(WentBack));
+    // The interval is 10, or the one that is named.
+    let restored = [SequenceTracker::from_bytes(&image), SequenceTracker::from_bytes_with_interval(&image, 60)];
+    for (back, next) in restored.into_iter().zip([40, 90]) {
+        let mut back = back.unwrap();
+        assert_eq!(back.insert(pair(9, 39)), Ok(TooSoon));
+        assert_eq!([29, 30, next - 1, next].map(|second| back.insert(pair(9, second))), [Ok(WentBack), Ok(TooSoon), Ok(TooSoon), Ok(Recorded)]);
+    }
 }
 
 fn order() {
@@ -151,6 +157,9 @@ fn uncounted() {
     let image = table(8192, 60, &[(5, 100)]).to_bytes_strict().unwrap();
     let (mut seqs, mut secs) = (vec![0; 8192], vec![0; 8192]);
     let (s, z) = (seqs.as_mut_ptr(), secs.as_mut_ptr());
-    let made = unsafe { [sys::skut_new(), sys::skut_with_config(4, 10), sys::skut_restore(image.as_ptr(), image.len(), s, 8192, z, 8192)] };
+    let (b, k) = (image.as_ptr(), image.len());
+    let made = unsafe { [sys::skut_new(), sys::skut_with_config(4, 10), sys::skut_restore(b, k, s, 8192, z, 8192)] };
+    let at_60 = unsafe { sys::skut_restore_with_interval(b, k, s, 8192, z, 8192, 60) };
     assert_eq!(made.map(|told| (told.answer.number, told.tally)), [(0, none); 3]);
+    assert_eq!((at_60.answer.number, at_60.tally), (0, none));
 }

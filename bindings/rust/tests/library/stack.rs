@@ -6,8 +6,10 @@ use crate::run::Case;
 use skutlaneb::sys::{self, State, TableAnswer};
 use std::mem::size_of;
 
-pub const CASES: &[Case] =
-    &[("no call needs more stack than the header says", stack), ("nor does one that is refused where bytes, bits or a list of offers stop", refused)];
+pub const CASES: &[Case] = &[
+    ("no call needs more stack than the header says", stack),
+    ("nor does one that is refused for its interval, or where bytes, bits or a list of offers stop", refused),
+];
 
 const HEADER: &str = include_str!("../../../c/skutlaneb.h");
 const PAIRS: usize = 8192;
@@ -63,6 +65,7 @@ fn calls(l: &mut Lent) -> Vec<Call> {
         ("skut_save", sys::skut_save as *const (), table(&[b, room])),
         ("skut_save_strict", sys::skut_save_strict as *const (), table(&[b, room])),
         ("skut_restore", sys::skut_restore as *const (), words(&[b, room, s, n, z, n])),
+        ("skut_restore_with_interval", sys::skut_restore_with_interval as *const (), words(&[b, room, s, n, z, n, 60])),
         ("skut_encoded_len", sys::skut_encoded_len as *const (), arrays(&[])),
         ("skut_encode", sys::skut_encode as *const (), arrays(&[b, room])),
         ("skut_encode_strict", sys::skut_encode_strict as *const (), arrays(&[b, room])),
@@ -157,8 +160,10 @@ fn refused() {
         calls.push((*number, ("skut_decode", sys::skut_decode as *const (), words(&[b, k, s, n, z, n]))));
         calls.push((*number, ("skut_image_len", sys::skut_image_len as *const (), words(&[b, k]))));
         calls.push((*number, ("skut_restore", sys::skut_restore as *const (), words(&[b, k, s, n, z, n]))));
+        calls.push((*number, ("skut_restore_with_interval", sys::skut_restore_with_interval as *const (), words(&[b, k, s, n, z, n, 60]))));
         calls.push((24, ("skut_read_bits", sys::skut_read_bits as *const (), words(&[b, k, k - 1, 3, 64]))));
     }
+    calls.push((15, ("skut_restore_with_interval", sys::skut_restore_with_interval as *const (), words(&[s, 0, s, n, z, n, u64::MAX]))));
     let (low_seq, late_sec, other) = (3u64, 9000i64, State { count: 1, capacity: 1, has_last: 1, interval_secs: 0, last: 9000 });
     let one = [&low_seq as *const u64 as u64, 1, &late_sec as *const i64 as u64, 1];
     let table = || std::iter::once(Table(lent.state)).chain(words(&[s, n, z, n]));

@@ -40,8 +40,9 @@ pub fn table(capacity: u32, interval_secs: u64, pairs: &[(u64, i64)]) -> Sequenc
 fn new() {
     let tracker = SequenceTracker::new();
     assert!(tracker.is_empty());
-    assert_eq!((tracker.capacity(), tracker.interval_secs(), tracker.last_recorded()), (8192, 60, None));
+    assert_eq!((tracker.capacity(), tracker.interval_secs(), tracker.last_recorded()), (8192, 10, None));
     assert_eq!(tracker, SequenceTracker::default());
+    assert_eq!(tracker, table(8192, 10, &[]));
 }
 
 fn settings() {
