@@ -181,10 +181,10 @@ pub record Cases : Type 0 where
       RestoreTells 9223372036854775808 8191 [] (refused (15 ∷ []))
       × RestoreTells 9223372036854775807 8191 [] (refused (14 ∷ []))
       × RestoreTells 9223372036854775807 8192 [] (refused (1 ∷ []))
-  -- interval 60, (1,100) saved strictly and restored, then (2,130): too soon if the restore names 60; recorded if it is `restore`, by which the interval became 10
+  -- interval 60, (5,100) saved strictly and restored, then (6,110): too soon if the restore names 60; recorded if it is `restore`, by which the interval became 10
   pub own-interval :
-      Skips tooSoon (offeredAndReloaded 60 (pair 1 100) (naming 60)) (pair 2 130)
-      × Keeps (step (offeredAndReloaded 60 (pair 1 100) plain) (offered (seqNo 2) (second 130))) (pair 1 100 ∷ pair 2 130 ∷ []) 130
+      Skips tooSoon (offeredAndReloaded 60 (pair 5 100) (naming 60)) (pair 6 110)
+      × Keeps (step (offeredAndReloaded 60 (pair 5 100) plain) (offered (seqNo 6) (second 110))) (pair 5 100 ∷ pair 6 110 ∷ []) 110
   -- the second equal to the last recorded one: too soon at interval 1, recorded at 0
   pub again :
       Skips tooSoon (offeredAll 4 1 (pair 1 100 ∷ [])) (pair 2 100)
