@@ -64,6 +64,7 @@ extern "C" {
     pub fn skut_save(state: State, seqs: *const u64, n: usize, secs: *const i64, m: usize, out: *mut u8, k: usize) -> Answer;
     pub fn skut_save_strict(state: State, seqs: *const u64, n: usize, secs: *const i64, m: usize, out: *mut u8, k: usize) -> Answer;
     pub fn skut_restore(bytes: *const u8, k: usize, seqs: *mut u64, n: usize, secs: *mut i64, m: usize) -> TableAnswer;
+    pub fn skut_restore_with_interval(bytes: *const u8, k: usize, seqs: *mut u64, n: usize, secs: *mut i64, m: usize, interval_secs: u64) -> TableAnswer;
     pub fn skut_encoded_len(seqs: *const u64, n: usize, secs: *const i64, m: usize) -> Answer;
     pub fn skut_encode(seqs: *const u64, n: usize, secs: *const i64, m: usize, out: *mut u8, k: usize) -> Answer;
     pub fn skut_encode_strict(seqs: *const u64, n: usize, secs: *const i64, m: usize, out: *mut u8, k: usize) -> Answer;
