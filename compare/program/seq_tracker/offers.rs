@@ -138,6 +138,9 @@ pub fn random(tally: &mut Tally, chance: &mut Chance) {
             offer(tally, &mut t, &mut ours, seq, sec);
         }
     }
+    // slatedb's `new()` is our settings with its interval named; that `skut_new` has another interval, and else the same, is by the rules (docs/RULES.md)
     let new = TableAnswer { answer: OK, tally: NO_OFFERS, state: theirs::state(&SequenceTracker::new()) };
-    tally.same("settings", || "new".into(), &new, &ours::new());
+    tally.same("settings", || "slatedb's new".into(), &new, &ours::with_config(8192, theirs::SLATEDB_INTERVAL_SECS));
+    let ruled = State { count: 0, capacity: 8192, has_last: 0, interval_secs: ours::SKUT_INTERVAL_SECS, last: 0 };
+    tally.ruled("settings by default", || "skut_new".into(), &TableAnswer { state: ruled, ..new }, &ours::new());
 }

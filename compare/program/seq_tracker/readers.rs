@@ -2,7 +2,7 @@
 use super::super::*;
 use super::chance::{Chance, FIRST_SECOND, LAST_SECOND};
 use super::lent::{self, holding, Lent};
-use super::ours::{self, Answer, State, Table, TableAnswer, NO_OFFERS, NO_STATE, OK};
+use super::ours::{self, Answer, Table, TableAnswer, NO_OFFERS, NO_STATE, OK};
 use super::tally::Tally;
 use super::theirs;
 use crate::utils::BitReader;
@@ -91,7 +91,7 @@ impl Lending {
 
     pub fn restore(&mut self, tally: &mut Tally, bytes: &[u8], theirs: &Theirs) {
         let input = || format!("bytes {bytes:02x?}");
-        let ours = Table::restore(bytes, &mut self.seqs, &mut self.secs);
+        let ours = Table::restore_with_interval(bytes, &mut self.seqs, &mut self.secs, theirs::SLATEDB_INTERVAL_SECS);
         let no_table = |answer| TableAnswer { answer, tally: NO_OFFERS, state: NO_STATE };
         if let Some(array) = above_room(bytes, 8192) {
             tally.ruled("tables not restored, 10", input, &no_table(refused(10, array)), &ours);
@@ -108,8 +108,7 @@ impl Lending {
                     self.kept(tally, "tables not restored, 11 to 13", bytes);
                 }
                 None => {
-                    let state = State { capacity: 8192, interval_secs: 60, ..theirs::state(t) };
-                    let theirs = TableAnswer { answer: refused(0, 0), tally: NO_OFFERS, state };
+                    let theirs = TableAnswer { answer: OK, tally: NO_OFFERS, state: theirs::state(t) };
                     tally.same("tables restored", input, &theirs, &ours);
                     self.held = (holding(&self.held.0, &t.sequence_numbers), holding(&self.held.1, &t.timestamps));
                     tally.holds("tables restored", input, &self.held, &(self.seqs.all(), self.secs.all()));

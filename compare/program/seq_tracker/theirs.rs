@@ -4,6 +4,10 @@ use super::ours::{Answer, Counts, State, OK};
 use super::stops;
 use std::panic::{catch_unwind, AssertUnwindSafe};
 
+/// slatedb's default interval: that of its `new()` and of every table that it restores. Ours is another, so our side names this one wherever it is
+/// compared with slatedb's default.
+pub const SLATEDB_INTERVAL_SECS: u64 = 60;
+
 pub fn instant(sec: i64) -> DateTime<Utc> {
     DateTime::from_timestamp(sec, 0).expect("a second of chrono's range")
 }
