@@ -62,6 +62,7 @@ pub fn with_config(capacity: u32, interval_secs: u64) -> TableAnswer {
 }
 
 /// A table of ours: its state and the arrays that are lent with it.
+#[derive(Clone)]
 pub struct Table {
     pub state: State,
     pub seqs: Lent<u64>,
@@ -69,6 +70,11 @@ pub struct Table {
 }
 
 impl Table {
+    /// The kept pairs.
+    pub fn kept(&self) -> (&[u64], &[i64]) {
+        (&self.seqs.places()[..self.state.count], &self.secs.places()[..self.state.count])
+    }
+
     pub fn check(&self) -> Answer {
         let ((p, n), (q, m)) = (self.seqs.of(), self.secs.of());
         unsafe { linked::skut_check(self.state, p, n, q, m) }
