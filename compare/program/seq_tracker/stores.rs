@@ -112,13 +112,13 @@ fn with_reloads(tally: &mut Tally, chance: &mut Chance, n: usize) {
 fn with_other_intervals(tally: &mut Tally, chance: &mut Chance, n: usize) {
     let (mut t, mut ours) = begun(tally, chance, n);
     for _ in 0..1 + chance.below(6) {
-        let (n, listed) = (chance.index(6), chance.below(2) == 0);
-        let (seqs, secs) = lists::log(chance, &t, n, t.interval_secs);
-        go_on(tally, chance, &mut t, &mut ours, &seqs, &secs, listed);
         let interval = chance.interval();
         if reload(tally, chance, &t, &mut ours, interval) {
             t = theirs::at_interval(theirs::read(&t.to_bytes()).expect("an image that the Rust wrote"), interval);
         }
+        let (n, listed) = (chance.index(6), chance.below(2) == 0);
+        let (seqs, secs) = lists::log(chance, &t, n, t.interval_secs);
+        go_on(tally, chance, &mut t, &mut ours, &seqs, &secs, listed);
     }
 }
 
