@@ -14,7 +14,8 @@ HEAD = """# Speed
 
 Instructions of x86-64, counted between marks in one program that has the real Rust and our static library in it, both for release.
 The same inputs go to both, and every answer is compared with the Rust's before it is counted. The count of one program is the same in
-every run and in every folder. `compare/bench` makes this page again. The digest of what was measured is
+every run and in every folder. The counter counts an instruction that lies across a boundary of 4,096 bytes twice: where one does so in a loop, the same code comes to more in another program
+(by 16,382 in `decode` of 8,192 mixed pairs, as this page once had it). `compare/bench` makes this page again. The digest of what was measured is
 `{digest}`; `compare/bench --check` says whether that is what stands here.
 
 {times}
@@ -23,7 +24,7 @@ Regular data: every sequence 64 and every second 60 above the one before, so tha
 0 to 4,999 and seconds 60 to 99 above the one before. Ours / Rust below 1 is less than the Rust takes.
 
 An image is written into a buffer of exactly its length, which is counted first so that a refusal (21) comes before a byte is written; or into 9n + 21 bytes, which
-hold any image of n pairs, so that nothing is counted. The Rust crate of `bindings/rust` does the latter.
+hold any image of n pairs, so that nothing is counted. The Rust crate of `bindings/rust` does the latter. A restore names the interval 60, at which the Rust restores.
 """
 
 

@@ -328,6 +328,30 @@ def restores(oracle, records, chance):
         table.restore(data + chance.bytes(5))
 
 
+def after_restores(oracle, records):
+    """Offers to a table just restored, at the limits of the interval that slatedb gives it, 60, and of our default one, 10, which it has before: from 10 to 59 seconds after the last
+    restored one they come too soon at 60, and at 10 they do not. The sequence is below the last kept one, and above it. Then an empty table, a list, and another table's pairs."""
+    table = Table(oracle, records, 8192, 10)
+    empty, *datas = encoded(oracle, [[], [(5, 60)], P5])
+    limits = (9, 10, 59, 60)
+    for data in datas:
+        for after in limits:
+            for above in (-1, 1):
+                table.restore(data)
+                seq, sec = table.state.pairs[-1]
+                table.offer(seq + above, sec + after)
+                table.show()
+    table.restore(empty)
+    for after in (0, *limits):
+        table.offer(1, 1000 + after)
+        table.show()
+    table.restore(datas[1])
+    table.offer_rule(Rule(40, 1, (200, 1, 0), (61, 10, 0)))
+    table.show()
+    table.restore(datas[1])
+    table.extend(8, 10, [(200 + i, 70 + 10 * i) for i in range(8)])
+
+
 def add(oracle, records, chance):
     worked(oracle, records)
     skips(oracle, records)
@@ -337,3 +361,4 @@ def add(oracle, records, chance):
     long_runs(oracle, records, chance)
     extends(oracle, records, chance)
     restores(oracle, records, chance)
+    after_restores(oracle, records)

@@ -146,7 +146,7 @@ fn images(bench: &mut Bench, data: &str, n: usize) {
     let bytes = image.clone();
     read(name("decode"), Box::new(move |a, b| ours::decode(black_box(&bytes), a, b).a as usize));
     let bytes = image.clone();
-    read(name("restore"), Box::new(move |a, b| Table::restore(black_box(&bytes), a, b).state.count));
+    read(name("restore"), Box::new(move |a, b| Table::restore_with_interval(black_box(&bytes), a, b, theirs::SLATEDB_INTERVAL_SECS).state.count));
 }
 
 fn lookups(bench: &mut Bench, data: &str, n: usize) {

@@ -40,6 +40,20 @@ impl Chance {
         if size == 0 { 0 } else { self.word() >> (64 - size) }
     }
 
+    /// An interval that the calls take: one of those that matter, or of any size.
+    pub fn interval(&mut self) -> u64 {
+        match self.below(2) {
+            0 => self.of(&[0, 1, 10, 60, 1 << 40, i64::MAX as u64]),
+            _ => self.sized() >> 1,
+        }
+    }
+
+    /// An interval that they refuse, above 2^63-1.
+    pub fn bad_interval(&mut self) -> u64 {
+        let any = self.word() | 1 << 63;
+        self.of(&[1 << 63, u64::MAX, any])
+    }
+
     /// A difference of deltas at a row's limit, one beyond, or of any size.
     pub fn step(&mut self) -> i64 {
         const EDGES: [i64; 8] = [0, 63, 255, 2047, 1 << 31, 1 << 32, i64::MAX, 1];

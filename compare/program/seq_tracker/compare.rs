@@ -12,6 +12,7 @@ mod offers;
 mod ours;
 mod readers;
 mod refusals;
+mod restores;
 mod stops;
 mod stores;
 mod tally;

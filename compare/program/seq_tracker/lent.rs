@@ -3,6 +3,7 @@ use super::chance::Chance;
 
 const EDGE: usize = 4;
 
+#[derive(Clone)]
 pub struct Lent<T> {
     all: Vec<T>,
 }
@@ -25,6 +26,11 @@ impl<T: Copy + PartialEq> Lent<T> {
     }
 
     /// Everything, edges too: what is compared after a call.
+    pub fn whole(&self) -> &[T] {
+        &self.all
+    }
+
+    /// The same, to be kept beside a later call.
     pub fn all(&self) -> Vec<T> {
         self.all.clone()
     }

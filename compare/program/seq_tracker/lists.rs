@@ -72,7 +72,7 @@ const EXTENSIONS: Kinds = Kinds {
     both: "extensions from another table, some went back and some too soon",
 };
 
-/// Compares an answer and the arrays. Our table goes on from there.
+/// Compares our answer and the arrays. Our table goes on from there.
 fn compare(tally: &mut Tally, kinds: Kinds, input: impl Fn() -> String, theirs: TableAnswer, held: Held, answer: TableAnswer, ours: &mut Table) {
     let kind = if theirs.answer.number == 0 { kinds.ended } else { kinds.stopped };
     tally.same(kind, &input, &comparable(&theirs), &comparable(&answer));
@@ -89,12 +89,14 @@ fn compare(tally: &mut Tally, kinds: Kinds, input: impl Fn() -> String, theirs: 
     ours.state = answer.state;
 }
 
-fn list(tally: &mut Tally, t: &mut SequenceTracker, ours: &mut Table, seqs: &[u64], secs: &[i64]) {
+/// A list of offers on both sides, and our answer.
+pub fn list(tally: &mut Tally, t: &mut SequenceTracker, ours: &mut Table, seqs: &[u64], secs: &[i64]) -> TableAnswer {
     let (stood, mut held) = (t.clone(), Held::by(ours));
     let theirs = offered(t, &mut held, seqs, secs);
     let answer = ours.offer_pairs(seqs, secs);
     let input = || format!("sequences {seqs:?} and seconds {secs:?} offered to {}", shown(&stood));
     compare(tally, LISTS, input, theirs, held, answer, ours);
+    answer
 }
 
 fn extend(tally: &mut Tally, chance: &mut Chance, t: &mut SequenceTracker, ours: &mut Table, other: &SequenceTracker) {
@@ -174,12 +176,12 @@ fn rising_from(chance: &mut Chance, t: &SequenceTracker, n: usize) -> Vec<u64> {
     (0..n).map(|_| next()).collect()
 }
 
-/// A log about a table's last pair.
-fn log(chance: &mut Chance, t: &SequenceTracker, n: usize) -> (Vec<u64>, Vec<i64>) {
+/// A log about a table's last pair, whose seconds go by an interval.
+pub fn log(chance: &mut Chance, t: &SequenceTracker, n: usize, interval: u64) -> (Vec<u64>, Vec<i64>) {
     let (mut last_seq, mut last_sec) = (t.sequence_numbers.last().copied(), t.last_recorded_ts);
     let (mut seqs, mut secs) = (vec![], vec![]);
     for _ in 0..n {
-        let (seq, sec) = (sequence(chance, last_seq), second(chance, last_sec, t.interval_secs.min(1000)));
+        let (seq, sec) = (sequence(chance, last_seq), second(chance, last_sec, interval));
         seqs.push(seq);
         secs.push(sec);
         last_seq = last_seq.max(Some(seq));
@@ -222,7 +224,7 @@ pub fn random(tally: &mut Tally, chance: &mut Chance) {
         let mut ours = table_of(chance, &t);
         for _ in 0..1 + chance.below(6) {
             let n = chance.index(20);
-            let (seqs, secs) = log(chance, &t, n);
+            let (seqs, secs) = log(chance, &t, n, t.interval_secs.min(1000));
             list(tally, &mut t, &mut ours, &seqs, &secs);
             unequal(tally, chance, &t, &mut ours, seqs, secs);
             if chance.below(2) == 0 {

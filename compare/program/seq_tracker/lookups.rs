@@ -92,6 +92,23 @@ pub fn exhaustive(tally: &mut Tally) {
     }
 }
 
+/// Lookups by keys about those of a table, and beyond its ends.
+pub fn about(tally: &mut Tally, chance: &mut Chance, t: &SequenceTracker, ours: &Table, times: usize) {
+    for _ in 0..times {
+        let near = chance.below(3);
+        let at = chance.index(t.timestamps.len().max(1));
+        let (seq, sec) = (t.sequence_numbers.get(at).copied().unwrap_or(9), t.timestamps.get(at).copied().unwrap_or(9));
+        by_sequence(tally, t, ours, seq.wrapping_add(near).wrapping_sub(1));
+        by_second(tally, t, ours, sec + near as i64 - 1);
+    }
+    for seq in [0, u64::MAX, chance.sized()] {
+        by_sequence(tally, t, ours, seq);
+    }
+    for sec in [FIRST_SECOND - 1, LAST_SECOND + 1, 0] {
+        by_second(tally, t, ours, sec);
+    }
+}
+
 pub fn random(tally: &mut Tally, chance: &mut Chance) {
     for i in 0..150 {
         let n = if i == 149 { 8192 } else { chance.index(30) };
@@ -99,18 +116,6 @@ pub fn random(tally: &mut Tally, chance: &mut Chance) {
         let capacity = (n + chance.index(3)).min(8192) as u32;
         let t = theirs::table(capacity, 60, &seqs, &secs);
         let ours = table_of(chance, &t);
-        for _ in 0..40 {
-            let near = chance.below(3);
-            let at = chance.index(n.max(1));
-            let (seq, sec) = (seqs.get(at).copied().unwrap_or(9), secs.get(at).copied().unwrap_or(9));
-            by_sequence(tally, &t, &ours, seq.wrapping_add(near).wrapping_sub(1));
-            by_second(tally, &t, &ours, sec + near as i64 - 1);
-        }
-        for seq in [0, u64::MAX, chance.sized()] {
-            by_sequence(tally, &t, &ours, seq);
-        }
-        for sec in [FIRST_SECOND - 1, LAST_SECOND + 1, 0] {
-            by_second(tally, &t, &ours, sec);
-        }
+        about(tally, chance, &t, &ours, 40);
     }
 }

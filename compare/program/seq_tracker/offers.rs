@@ -35,8 +35,8 @@ pub fn comparable(said: &TableAnswer) -> Comparable {
     Comparable { answer: said.answer, recorded: counts.recorded, skipped, state: said.state }
 }
 
-/// One offer on both sides. The tables go on from what it leaves.
-pub fn offer(tally: &mut Tally, t: &mut SequenceTracker, ours: &mut Table, seq: u64, sec: i64) -> Offer {
+/// One offer on both sides, and our answer. The tables go on from what it leaves.
+pub fn offer(tally: &mut Tally, t: &mut SequenceTracker, ours: &mut Table, seq: u64, sec: i64) -> TableAnswer {
     let stood = t.clone();
     let input = || format!("({seq}, {sec}) offered to {}", shown(&stood));
     let before = (ours.seqs.all(), ours.secs.all());
@@ -67,7 +67,7 @@ pub fn offer(tally: &mut Tally, t: &mut SequenceTracker, ours: &mut Table, seq: 
     if outcome != Offer::Refused {
         ours.state = answered.state;
     }
-    outcome
+    answered
 }
 
 /// Every list of up to `left` offers of small numbers.
@@ -126,18 +126,26 @@ pub fn empty(chance: &mut Chance) -> SequenceTracker {
     SequenceTracker::with_config(capacity, interval)
 }
 
+/// Our table of the settings of an empty one, as `with_config` makes it.
+pub fn made(tally: &mut Tally, chance: &mut Chance, t: &SequenceTracker) -> Table {
+    let answer = ours::with_config(t.capacity, t.interval_secs);
+    tally.same("settings", || shown(t), &theirs::given(t), &answer);
+    Table { state: answer.state, ..table_of(chance, t) }
+}
+
 pub fn random(tally: &mut Tally, chance: &mut Chance) {
     for _ in 0..250 {
         let mut t = empty(chance);
-        let mut ours = table_of(chance, &t);
-        let made = ours::with_config(t.capacity, t.interval_secs);
-        tally.same("settings", || shown(&t), &TableAnswer { answer: OK, tally: NO_OFFERS, state: theirs::state(&t) }, &made);
+        let mut ours = made(tally, chance, &t);
         for _ in 0..chance.below(60) {
             let sec = second(chance, t.last_recorded_ts, t.interval_secs);
             let seq = sequence(chance, t.sequence_numbers.last().copied());
             offer(tally, &mut t, &mut ours, seq, sec);
         }
     }
-    let new = TableAnswer { answer: OK, tally: NO_OFFERS, state: theirs::state(&SequenceTracker::new()) };
-    tally.same("settings", || "new".into(), &new, &ours::new());
+    // slatedb's `new()` is our settings with its interval named; `skut_new` has another interval, by the rules (docs/RULES.md)
+    let new = theirs::given(&SequenceTracker::new());
+    tally.same("settings", || "slatedb's new".into(), &new, &ours::with_config(8192, theirs::SLATEDB_INTERVAL_SECS));
+    let rule = State { count: 0, capacity: 8192, has_last: 0, interval_secs: ours::SKUT_INTERVAL_SECS, last: 0 };
+    tally.ruled("settings by default", || "skut_new".into(), &TableAnswer { answer: OK, tally: NO_OFFERS, state: rule }, &ours::new());
 }

@@ -14,6 +14,9 @@ pub const OK: Answer = Answer { number: 0, a: 0, b: 0, c: 0, byte: 0, bit: 0 };
 /// What is returned where no offer was made.
 pub const NO_OFFERS: Counts = Counts { recorded: 0, went_back: 0, too_soon: 0 };
 
+/// The interval of `skut_new` and of `skut_restore`, by the rules (docs/RULES.md). slatedb's is another.
+pub const SKUT_INTERVAL_SECS: u64 = 10;
+
 /// What is returned where there is no state: every call refuses it.
 pub const NO_STATE: State = State { count: 0, capacity: u32::MAX, has_last: 0, interval_secs: 0, last: 0 };
 
@@ -59,6 +62,7 @@ pub fn with_config(capacity: u32, interval_secs: u64) -> TableAnswer {
 }
 
 /// A table of ours: its state and the arrays that are lent with it.
+#[derive(Clone)]
 pub struct Table {
     pub state: State,
     pub seqs: Lent<u64>,
@@ -66,6 +70,11 @@ pub struct Table {
 }
 
 impl Table {
+    /// The kept pairs.
+    pub fn kept(&self) -> (&[u64], &[i64]) {
+        (&self.seqs.places()[..self.state.count], &self.secs.places()[..self.state.count])
+    }
+
     pub fn check(&self) -> Answer {
         let ((p, n), (q, m)) = (self.seqs.of(), self.secs.of());
         unsafe { linked::skut_check(self.state, p, n, q, m) }
@@ -107,5 +116,10 @@ impl Table {
     pub fn restore(bytes: &[u8], seqs: &mut Lent<u64>, secs: &mut Lent<i64>) -> TableAnswer {
         let ((p, n), (q, m)) = (seqs.of_mut(), secs.of_mut());
         unsafe { linked::skut_restore(bytes.as_ptr(), bytes.len(), p, n, q, m) }
+    }
+
+    pub fn restore_with_interval(bytes: &[u8], seqs: &mut Lent<u64>, secs: &mut Lent<i64>, interval_secs: u64) -> TableAnswer {
+        let ((p, n), (q, m)) = (seqs.of_mut(), secs.of_mut());
+        unsafe { linked::skut_restore_with_interval(bytes.as_ptr(), bytes.len(), p, n, q, m, interval_secs) }
     }
 }

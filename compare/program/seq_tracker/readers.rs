@@ -1,8 +1,9 @@
 //! Readers: the values that are read back, the image's length, and refusals 1 to 9, from good and damaged bytes.
 use super::super::*;
 use super::chance::{Chance, FIRST_SECOND, LAST_SECOND};
-use super::lent::{self, holding, Lent};
-use super::ours::{self, Answer, State, Table, TableAnswer, NO_OFFERS, NO_STATE, OK};
+use super::lent::{self, holding};
+use super::ours::{self, Answer, OK};
+use super::restores::Restores;
 use super::tally::Tally;
 use super::theirs;
 use crate::utils::BitReader;
@@ -13,10 +14,10 @@ const REFUSED: [&str; 10] = [
 ];
 
 /// What the Rust makes of an image: its table, or its refusal in full.
-type Theirs = Result<SequenceTracker, Answer>;
+pub type Theirs = Result<SequenceTracker, Answer>;
 
 /// The array whose count is above the room, where that is met before another refusal.
-fn above_room(bytes: &[u8], room: usize) -> Option<u64> {
+pub fn above_room(bytes: &[u8], room: usize) -> Option<u64> {
     let count = |at: usize| BitReader::new(bytes.get(at..)?).read32(32).map(|n| n as usize);
     if bytes.first() != Some(&1) || bytes.len() < 5 {
         return None;
@@ -29,7 +30,7 @@ fn above_room(bytes: &[u8], room: usize) -> Option<u64> {
     if seqs.len() == header && count(5 + len)? > room { Some(1) } else { None }
 }
 
-fn refused(number: u32, a: u64) -> Answer {
+pub fn refused(number: u32, a: u64) -> Answer {
     Answer { number, a, ..OK }
 }
 
@@ -71,54 +72,6 @@ fn image_len(tally: &mut Tally, bytes: &[u8], theirs: &Theirs) {
     }
 }
 
-/// Arrays that are lent to one restore after the other, and what they should hold.
-pub struct Lending {
-    seqs: Lent<u64>,
-    secs: Lent<i64>,
-    held: (Vec<u64>, Vec<i64>),
-}
-
-impl Lending {
-    pub fn new(chance: &mut Chance) -> Lending {
-        let (seqs, secs) = (lent::seqs(chance, &[], 8192), lent::secs(chance, &[], 8192));
-        let held = (seqs.all(), secs.all());
-        Lending { seqs, secs, held }
-    }
-
-    fn kept(&mut self, tally: &mut Tally, kind: &'static str, bytes: &[u8]) {
-        tally.kept(kind, || format!("bytes {bytes:02x?}"), &self.held, &(self.seqs.all(), self.secs.all()));
-    }
-
-    pub fn restore(&mut self, tally: &mut Tally, bytes: &[u8], theirs: &Theirs) {
-        let input = || format!("bytes {bytes:02x?}");
-        let ours = Table::restore(bytes, &mut self.seqs, &mut self.secs);
-        let no_table = |answer| TableAnswer { answer, tally: NO_OFFERS, state: NO_STATE };
-        if let Some(array) = above_room(bytes, 8192) {
-            tally.ruled("tables not restored, 10", input, &no_table(refused(10, array)), &ours);
-            return self.kept(tally, "tables not restored, 10", bytes);
-        }
-        match theirs {
-            Err(refusal) => {
-                tally.same("tables not restored, 1 to 9", input, &no_table(*refusal), &ours);
-                self.kept(tally, "tables not restored, 1 to 9", bytes);
-            }
-            Ok(t) => match unfit(&t.sequence_numbers, &t.timestamps) {
-                Some((number, index)) => {
-                    tally.ruled("tables not restored, 11 to 13", input, &no_table(refused(number, index)), &ours);
-                    self.kept(tally, "tables not restored, 11 to 13", bytes);
-                }
-                None => {
-                    let state = State { capacity: 8192, interval_secs: 60, ..theirs::state(t) };
-                    let theirs = TableAnswer { answer: refused(0, 0), tally: NO_OFFERS, state };
-                    tally.same("tables restored", input, &theirs, &ours);
-                    self.held = (holding(&self.held.0, &t.sequence_numbers), holding(&self.held.1, &t.timestamps));
-                    tally.holds("tables restored", input, &self.held, &(self.seqs.all(), self.secs.all()));
-                }
-            },
-        }
-    }
-}
-
 /// Refusals 11, 12 and 13, as the rules (docs/RULES.md) have them.
 pub fn unfit(seqs: &[u64], secs: &[i64]) -> Option<(u32, u64)> {
     let drop = |i: usize| i as u64 + 1;
@@ -128,14 +81,14 @@ pub fn unfit(seqs: &[u64], secs: &[i64]) -> Option<(u32, u64)> {
     seq.or(sec).or(outside)
 }
 
-fn all(tally: &mut Tally, chance: &mut Chance, lending: &mut Lending, bytes: &[u8]) {
+fn all(tally: &mut Tally, chance: &mut Chance, restores: &mut Restores, bytes: &[u8]) {
     let theirs = theirs::read(bytes);
     image_len(tally, bytes, &theirs);
     let count = theirs.as_ref().map_or(20, |t| t.timestamps.len());
     let more = 1 + chance.index(4);
     let room = chance.of(&[count, count + more, count / 2, 600]);
     decode(tally, chance, bytes, &theirs, room);
-    lending.restore(tally, bytes, &theirs);
+    restores.all(tally, chance, bytes, &theirs);
 }
 
 /// An image with two bytes in the place of the codes of an array of n values.
@@ -148,11 +101,11 @@ fn coded(n: u8, bytes: [u8; 2]) -> Vec<u8> {
 
 pub fn exhaustive(tally: &mut Tally) {
     let chance = &mut Chance::new(1);
-    let mut lending = Lending::new(chance);
-    all(tally, chance, &mut lending, &[]);
+    let mut restores = Restores::new(chance);
+    all(tally, chance, &mut restores, &[]);
     for x in 0..=255 {
-        all(tally, chance, &mut lending, &[x]);
-        all(tally, chance, &mut lending, &[1, x]);
+        all(tally, chance, &mut restores, &[x]);
+        all(tally, chance, &mut restores, &[1, x]);
         (0..=255).for_each(|y| image_len(tally, &[x, y], &theirs::read(&[x, y])));
     }
     for x in 0..=65535u16 {
@@ -165,11 +118,11 @@ pub fn exhaustive(tally: &mut Tally) {
     }
     let image = theirs::table(8192, 60, &[100, 164, 170, 5000, 5001], &[0, 60, 120, 4000, 1 << 33]).to_bytes();
     for i in 0..image.len() {
-        all(tally, chance, &mut lending, &image[..i]);
+        all(tally, chance, &mut restores, &image[..i]);
         for x in 0..=255 {
             let mut changed = image.clone();
             changed[i] = x;
-            all(tally, chance, &mut lending, &changed);
+            all(tally, chance, &mut restores, &changed);
         }
     }
 }
@@ -190,7 +143,7 @@ fn damage(chance: &mut Chance, bytes: &mut Vec<u8>) {
 }
 
 pub fn random(tally: &mut Tally, chance: &mut Chance) {
-    let mut lending = Lending::new(chance);
+    let mut restores = Restores::new(chance);
     for i in 0..1500 {
         let n = match i {
             0..=1494 => chance.index(10),
@@ -203,12 +156,12 @@ pub fn random(tally: &mut Tally, chance: &mut Chance) {
         let mut bytes = theirs::table(8192, 60, &seqs, &secs).to_bytes();
         let follows = chance.index(5);
         bytes.extend(chance.bytes(follows));
-        all(tally, chance, &mut lending, &bytes);
+        all(tally, chance, &mut restores, &bytes);
         damage(chance, &mut bytes);
-        all(tally, chance, &mut lending, &bytes);
+        all(tally, chance, &mut restores, &bytes);
         let mut noise = vec![1, chance.below(4) as u8, 0, 0, 0, 0, 0, 0, chance.below(4) as u8];
         let more = chance.index(40);
         noise.extend(chance.bytes(more));
-        all(tally, chance, &mut lending, &noise);
+        all(tally, chance, &mut restores, &noise);
     }
 }

@@ -4,6 +4,7 @@ use super::lent;
 use super::offers::shown;
 use super::ours::{self, Answer, Table, TableAnswer, NO_OFFERS, NO_STATE, OK};
 use super::readers::unfit;
+use super::restores::due;
 use super::tally::Tally;
 use super::theirs::{self, Offer};
 
@@ -93,7 +94,7 @@ fn bad_table(tally: &mut Tally, chance: &mut Chance) {
 
 /// 15 and 16.
 fn settings_and_seconds(tally: &mut Tally, chance: &mut Chance) {
-    let (capacity, interval) = (chance.of(&[8193, u32::MAX, 5]), chance.of(&[1 << 63, u64::MAX]));
+    let (capacity, interval) = (chance.of(&[8193, u32::MAX, 5]), chance.bad_interval());
     let input = || format!("capacity {capacity}, interval {interval}");
     tally.ruled("settings refused, 15", input, &no_table(told(15, 0, 0)), &ours::with_config(capacity, interval));
     let t = theirs::table(4, 60, &[1, 2], &[5, 6]);
@@ -112,7 +113,7 @@ fn settings_and_seconds(tally: &mut Tally, chance: &mut Chance) {
     }
 }
 
-/// 18, 19, and 14 of a restore into too little room.
+/// 18.
 fn arrays(tally: &mut Tally, chance: &mut Chance) {
     let (n, m) = (chance.index(9), 9 + chance.index(9));
     let (seqs, secs) = (chance.seqs(n), chance.secs(m));
@@ -124,13 +125,54 @@ fn arrays(tally: &mut Tally, chance: &mut Chance) {
         tally.ruled("encoders refused, 18", input, &told(18, 0, 0), &ours::encode(strict, &seqs, &secs, &mut out));
     }
     tally.kept("encoders refused, 18", input, &before, &out.all());
-    let image = theirs::table(8, 60, &[1], &[2]).to_bytes();
-    let (mut seqs, mut secs) = (lent::seqs(chance, &[], 8192), lent::secs(chance, &[], 8191));
-    let before = (seqs.all(), secs.all());
-    tally.ruled("restores refused, 14", || "8,191 seconds".into(), &no_table(told(14, 0, 0)), &Table::restore(&image, &mut seqs, &mut secs));
-    tally.kept("restores refused, 14", || "8,191 seconds".into(), &before, &(seqs.all(), secs.all()));
 }
 
+/// Bytes of which a restore makes a table, and those that it refuses with 1, 2, .. 13, each at the number's place.
+fn by_number() -> Vec<Vec<u8>> {
+    let image = |seqs: &[u64], secs: &[i64]| theirs::table(8192, 0, seqs, secs).to_bytes();
+    let good = image(&[100, 164, 170], &[0, 60, 90]);
+    let with = |at: usize, byte: u8| [&good[..at], &[byte], &good[at + 1..]].concat();
+    // nine values whose codes are the byte 01: the last has one bit
+    let prefix_cut = [&[1, 9, 0, 0, 0, 0, 0, 0, 9][..], &[0; 8], &[1]].concat();
+    let cut = |n: usize| good[..n].to_vec();
+    let read = vec![good.clone(), vec![], with(0, 2), cut(4), cut(8), cut(16), cut(17), prefix_cut, cut(18), with(1, 4)];
+    let many = vec![1, 1, 32, 0, 0, 0, 0, 32, 1];
+    let unfit = [image(&[5, 4], &[0, 0]), image(&[4, 5], &[1, 0]), image(&[1], &[LAST_SECOND + 1])];
+    let all: Vec<Vec<u8>> = read.into_iter().chain([many]).chain(unfit).collect();
+    let number = |bytes: &Vec<u8>| due(bytes, &theirs::read(bytes)).map_or_else(|refusal| refusal.number, |_| 0);
+    assert_eq!(all.iter().map(number).collect::<Vec<u32>>(), (0..=13).collect::<Vec<u32>>());
+    all
+}
+
+/// 15 of a restore, before 14 and before all that refuses its bytes; then 14, before the latter.
+fn restores(tally: &mut Tally, chance: &mut Chance, all: &[Vec<u8>]) {
+    for (n, m) in [(8192, 8192), (8191, 8192), (8192, 8191), (0, 0)] {
+        let (mut seqs, mut secs) = (lent::seqs(chance, &[], n), lent::secs(chance, &[], m));
+        let before = (seqs.all(), secs.all());
+        for (number, bytes) in all.iter().enumerate() {
+            let (interval, bad) = (chance.interval(), chance.bad_interval());
+            let input = || format!("interval {bad}, else {interval}, {n} sequences and {m} seconds lent, bytes {bytes:02x?}");
+            let (short, refused) = (n.min(m) < 8192, number > 0);
+            let kind = match (short, refused) {
+                (false, false) => "restores refused, 15",
+                (true, false) => "restores refused, 15 before 14",
+                (false, true) => "restores refused, 15 before 1 to 13",
+                (true, true) => "restores refused, 15 before 14 and 1 to 13",
+            };
+            tally.ruled(kind, input, &no_table(told(15, 0, 0)), &Table::restore_with_interval(bytes, &mut seqs, &mut secs, bad));
+            tally.kept(kind, input, &before, &(seqs.all(), secs.all()));
+            if !short {
+                continue;
+            }
+            let kind = if refused { "restores refused, 14 before 1 to 13" } else { "restores refused, 14" };
+            tally.ruled(kind, input, &no_table(told(14, 0, 0)), &Table::restore_with_interval(bytes, &mut seqs, &mut secs, interval));
+            tally.ruled(kind, input, &no_table(told(14, 0, 0)), &Table::restore(bytes, &mut seqs, &mut secs));
+            tally.kept(kind, input, &before, &(seqs.all(), secs.all()));
+        }
+    }
+}
+
+/// 19.
 fn too_many(tally: &mut Tally, chance: &mut Chance) {
     let (seqs, secs) = (vec![7; 65_537], vec![7; 65_537]);
     let mut out = lent::bytes(chance, 20_000);
@@ -151,6 +193,10 @@ pub fn random(tally: &mut Tally, chance: &mut Chance) {
     for _ in 0..50 {
         settings_and_seconds(tally, chance);
         arrays(tally, chance);
+    }
+    let all = by_number();
+    for _ in 0..5 {
+        restores(tally, chance, &all);
     }
     too_many(tally, chance);
 }

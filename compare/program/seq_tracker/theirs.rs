@@ -1,8 +1,12 @@
 //! The Rust's side: its answers in the numbers of the list of refusals (docs/RULES.md), and what it does not tell, why an offer was skipped.
 use super::super::*;
-use super::ours::{Answer, Counts, State, OK};
+use super::ours::{Answer, Counts, State, TableAnswer, NO_OFFERS, OK};
 use super::stops;
 use std::panic::{catch_unwind, AssertUnwindSafe};
+
+/// slatedb's default interval: that of its `new()` and of every table that it restores. Ours is another, so our side names this one wherever it is
+/// compared with slatedb's default.
+pub const SLATEDB_INTERVAL_SECS: u64 = 60;
 
 pub fn instant(sec: i64) -> DateTime<Utc> {
     DateTime::from_timestamp(sec, 0).expect("a second of chrono's range")
@@ -17,6 +21,11 @@ pub fn table(capacity: u32, interval_secs: u64, seqs: &[u64], secs: &[i64]) -> S
     t
 }
 
+/// A table with another interval. The Rust restores at its default one only, so its field is set; it goes on at the new one.
+pub fn at_interval(t: SequenceTracker, interval_secs: u64) -> SequenceTracker {
+    SequenceTracker { interval_secs, ..t }
+}
+
 /// A table's state as ours is.
 pub fn state(t: &SequenceTracker) -> State {
     State {
@@ -26,6 +35,11 @@ pub fn state(t: &SequenceTracker) -> State {
         interval_secs: t.interval_secs,
         last: t.last_recorded_ts.unwrap_or(0),
     }
+}
+
+/// Our answer that gives a table, where nothing was offered.
+pub fn given(t: &SequenceTracker) -> TableAnswer {
+    TableAnswer { answer: OK, tally: NO_OFFERS, state: state(t) }
 }
 
 #[derive(Clone, Copy, Debug, PartialEq, Eq)]
