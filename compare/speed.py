@@ -14,8 +14,7 @@ HEAD = """# Speed
 
 Instructions of x86-64, counted between marks in one program that has the real Rust and our static library in it, both for release.
 The same inputs go to both, and every answer is compared with the Rust's before it is counted. The count of one program is the same in
-every run and in every folder. The counter counts an instruction that lies across a boundary of 4,096 bytes twice: where one does so in a loop, the same code comes to more in another program
-(by 16,382 in `decode` of 8,192 mixed pairs, as this page once had it). `compare/bench` makes this page again. The digest of what was measured is
+every run and in every folder. `compare/bench` makes this page again. The digest of what was measured is
 `{digest}`; `compare/bench --check` says whether that is what stands here.
 
 {times}
@@ -33,7 +32,9 @@ def counted():
     tool = os.environ.get("ORACLE_COUNT") or os.path.join(os.path.dirname(ROOT), "shared", "tools", "oracle", "count")
     if not os.access(tool, os.X_OK):
         sys.exit("bench: no counter; ORACLE_COUNT names it, by default ../shared/tools/oracle/count from the project's folder")
-    ran = subprocess.run([tool, os.path.join(ROOT, "target", "compare", "compare"), "bench"], capture_output=True, text=True)
+    # One instruction at a time: in longer pieces the emulator counts one that lies across a page twice, so that the same code comes to more in a program that has it elsewhere.
+    singly = dict(os.environ, QEMU_SINGLESTEP="1")
+    ran = subprocess.run([tool, os.path.join(ROOT, "target", "compare", "compare"), "bench"], capture_output=True, text=True, env=singly)
     if ran.returncode != 0:
         sys.exit(ran.stdout + ran.stderr)
     counts = dict(re.findall(r"^mark (\d+): (\d+) instructions", ran.stderr, re.M))

@@ -20,28 +20,19 @@ pub fn due<'a>(bytes: &[u8], theirs: &'a Theirs) -> Result<&'a SequenceTracker, 
     }
 }
 
-/// The kinds of a restore's answer: a table, or the refusals 1 to 9, 10, and 11 to 13.
-struct Kinds {
-    restored: &'static str,
-    not_read: &'static str,
-    too_many: &'static str,
-    unfit: &'static str,
+/// What an answer is counted as, by its number: at slatedb's interval, at which the Rust restores, or at another.
+fn kind(number: u32, slatedbs: bool) -> &'static str {
+    match (number, slatedbs) {
+        (0, true) => "tables restored",
+        (0, false) => "tables restored at another interval",
+        (1..=9, true) => "tables not restored, 1 to 9",
+        (1..=9, false) => "tables not restored at another interval, 1 to 9",
+        (10, true) => "tables not restored, 10",
+        (10, false) => "tables not restored at another interval, 10",
+        (_, true) => "tables not restored, 11 to 13",
+        (_, false) => "tables not restored at another interval, 11 to 13",
+    }
 }
-
-/// At slatedb's interval, at which the Rust restores.
-const AT_SLATEDBS: Kinds = Kinds {
-    restored: "tables restored",
-    not_read: "tables not restored, 1 to 9",
-    too_many: "tables not restored, 10",
-    unfit: "tables not restored, 11 to 13",
-};
-
-const AT_OTHERS: Kinds = Kinds {
-    restored: "tables restored at another interval",
-    not_read: "tables not restored at another interval, 1 to 9",
-    too_many: "tables not restored at another interval, 10",
-    unfit: "tables not restored at another interval, 11 to 13",
-};
 
 /// Arrays that are lent to one restore after the other, and what they should hold.
 pub struct Lending {
@@ -74,22 +65,18 @@ impl Lending {
     pub fn restore(&mut self, tally: &mut Tally, bytes: &[u8], theirs: &Theirs, interval: u64) -> TableAnswer {
         let input = || format!("interval {interval}, bytes {bytes:02x?}");
         let slatedbs = interval == theirs::SLATEDB_INTERVAL_SECS;
-        let kinds = if slatedbs { &AT_SLATEDBS } else { &AT_OTHERS };
         let ours = Table::restore_with_interval(bytes, &mut self.seqs, &mut self.secs, interval);
         match due(bytes, theirs) {
             Ok(t) => {
+                let kind = kind(0, slatedbs);
                 let set = if slatedbs { t.clone() } else { theirs::at_interval(t.clone(), interval) };
-                tally.same(kinds.restored, input, &theirs::given(&set), &ours);
+                tally.same(kind, input, &theirs::given(&set), &ours);
                 lent::set(&mut self.held.0, 0, &t.sequence_numbers);
                 lent::set(&mut self.held.1, 0, &t.timestamps);
-                tally.holds(kinds.restored, input, &self.held(), &self.whole());
+                tally.holds(kind, input, &self.held(), &self.whole());
             }
             Err(refusal) => {
-                let kind = match refusal.number {
-                    1..=9 => kinds.not_read,
-                    10 => kinds.too_many,
-                    _ => kinds.unfit,
-                };
+                let kind = kind(refusal.number, slatedbs);
                 if refusal.number < 10 {
                     tally.same(kind, input, &no_table(refusal), &ours);
                 } else {
