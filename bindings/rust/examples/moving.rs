@@ -17,10 +17,13 @@ fn main() -> Result<(), Box<dyn std::error::Error>> {
     // `to_bytes` writes the same bytes as slatedb. `to_bytes_strict` does, too, but refuses pairs that they would bring back as other pairs.
     let stored = tracker.to_bytes_strict()?;
     // Before: SequenceTracker::from_bytes(&stored). The bytes have no interval.
-    let restored = SequenceTracker::from_bytes_with_interval(&stored, 60)?;
+    let mut restored = SequenceTracker::from_bytes_with_interval(&stored, 60)?;
     if let Some(second) = restored.find_ts(200, FindOption::RoundDown)? {
         println!("sequence 200 was written in second {second} or later");
     }
+
+    // The last recorded second is 125. At this crate's default interval, 10, the pair would be recorded.
+    println!("second 170: {:?}", restored.insert(TrackedSeq { seq: Seq(231), ts: Second(170) })?);
 
     // Bytes that were cut short are refused, with the number of the list of refusals and a sentence.
     if let Err(error) = SequenceTracker::from_bytes_with_interval(&stored[..stored.len() - 1], 60) {

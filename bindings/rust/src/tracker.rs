@@ -51,7 +51,8 @@ impl SequenceTracker {
     }
 
     /// An empty table with other settings: refused (15) where the capacity is above 8,192 or the interval above 2^63-1. Storage keeps neither: a table comes back
-    /// with capacity 8,192, and with the interval that [`SequenceTracker::from_bytes_with_interval`] names. [`SequenceTracker::to_bytes_strict`] has an example.
+    /// with capacity 8,192, and with the interval that [`SequenceTracker::from_bytes_with_interval`] names, or 10 by [`SequenceTracker::from_bytes`].
+    /// [`SequenceTracker::to_bytes_strict`] has an example.
     pub fn with_config(capacity: u32, interval_secs: u64) -> Result<SequenceTracker, Error> {
         let made = calls::with_config(capacity, interval_secs);
         calls::done(made.answer)?;

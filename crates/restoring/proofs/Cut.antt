@@ -1,4 +1,4 @@
--- What `restore` answers of an image that is cut off. Assumes nothing.
+-- What the two restores answer of an image that is cut off. Assumes nothing.
 use Prim.Native.Nat.{ℕ, _-_, _/_, _<_}
 use mathlib.Core.Path.{_≡_, refl, sym, ap}
 use mathlib.Core.Bool.{Bool, true, false, cond}

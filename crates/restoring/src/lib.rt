@@ -10,7 +10,7 @@ use tracker::SequenceTracker;
 // What a restore answers.
 pub enum Restored {
     Table(SequenceTracker),
-    // the lent arrays or the pairs are refused
+    // the interval, the lent arrays or the pairs are refused
     Refused(Refusal),
     // the list reader refuses
     NotDecoded(decoder::Refusal),
@@ -25,7 +25,7 @@ fn of_made(made: Made) -> Restored
     }
 }
 
-// Whether one of two lent arrays has fewer places than a table of the default capacity has pairs.
+// Whether one of two lent arrays has fewer places than the default capacity.
 fn too_short(seqs: usize, secs: usize) -> bool
     ensures { λ r. ⌜ r ≡ tooShort seqs secs ⌝ }
 {
@@ -35,7 +35,7 @@ fn too_short(seqs: usize, secs: usize) -> bool
     secs < 8192
 }
 
-// The Rust's `from_bytes`, but for the interval: the Rust gives each table 60.
+// At the default interval, where the Rust's `from_bytes` gives a table 60.
 pub fn restore(bytes: &[u8], seqs: &mut [u64], secs: &mut [i64]) -> Restored
     ensures { λ r. ⌜ Restores (now (bytes .entry)) (now (seqs .entry)) (now (secs .entry)) r (now (seqs .exit)) (now (secs .exit)) ⌝ }
 {

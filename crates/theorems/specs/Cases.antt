@@ -178,7 +178,8 @@ pub record Cases : Type 0 where
       × RestoreTells 9223372036854775807 8192 (fifth 0x00 0x00) (gave (freshTable 8192 9223372036854775807 2 (At (second 60))))
   -- 15 for an interval of 2^63, before 14 for arrays of 8,191 places, before 1 for no byte
   pub restore-order :
-      RestoreTells 9223372036854775808 8191 [] (refused (15 ∷ []))
+      RestoreTells 9223372036854775808 8192 (fifth 0x00 0x00) (refused (15 ∷ []))
+      × RestoreTells 9223372036854775808 8191 [] (refused (15 ∷ []))
       × RestoreTells 9223372036854775807 8191 [] (refused (14 ∷ []))
       × RestoreTells 9223372036854775807 8192 [] (refused (1 ∷ []))
   -- interval 60, (5,100) saved strictly and restored, then (6,110): too soon if the restore names 60; recorded if it is `restore`, by which the interval became 10

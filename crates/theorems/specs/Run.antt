@@ -199,7 +199,7 @@ DemandByDefault =
     ((seqs : List ℕ) (secs : List ℤ) → Lent seqs secs → GoesOn defaultIntervalSecs (new seqs secs))
     × ((bytes seqs seqs′ : List ℕ) (secs secs′ : List ℤ) (t : SequenceTracker) → Restores bytes seqs secs (restored.Table t) seqs′ secs′ → GoesOn defaultIntervalSecs (whole t seqs′ secs′))
 
--- the restores have to be at the table's own interval: with restores at another valid one no table that `with_config` makes goes on so
+-- the restores have to be at the table's own interval: with restores at another valid one no table that `with_config` makes at capacity 8,192 goes on so, as its state comes back with the other interval
 abbrev pub OwnIntervalNeeded : Type 0
 OwnIntervalNeeded = (interval other : ℕ) (seqs : List ℕ) (secs : List ℤ) (t : SequenceTracker) → configOf defaultCapacity interval ≡ gave t → Lent seqs secs
     → badSettings defaultCapacity other ≡ false → (other ≡ interval → ⊥) → GoesOn other (whole t seqs secs) → ⊥

@@ -33,7 +33,7 @@ impl SequenceTracker {
     /// The image has the pairs and nothing else. The settings and the last recorded second come back, too, if the capacity is 8,192, if the table was made by
     /// [`SequenceTracker::new`], [`SequenceTracker::with_config`] or the reading of bytes and by offers alone, if nobody changes the bytes, and if
     /// [`SequenceTracker::from_bytes_with_interval`] names the table's interval, or that is 10 and [`SequenceTracker::from_bytes`] reads them. At another
-    /// capacity they do not:
+    /// capacity that one does not come back, and the last recorded second need not:
     ///
     /// ```no_run
     /// # use skutlaneb::{Second, SequenceTracker, TrackedSeq};
