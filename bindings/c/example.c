@@ -1,13 +1,14 @@
-/* A table from C: offers and why some are skipped, a strict save, a restore, a lookup. The table outlives every refused call. */
+/* A table from C: offers and why some are skipped, what they come to, a strict save, a restore, a lookup. The table outlives every refused call. */
 #include "skutlaneb.h"
 
 #include <stdio.h>
 
 /* The library was built for this layout. */
 _Static_assert(sizeof(struct skut_answer) == 48 && offsetof(struct skut_answer, a) == 8 && offsetof(struct skut_answer, byte) == 32, "skut_answer");
-_Static_assert(sizeof(struct skut_state) == 32 && offsetof(struct skut_state, has_last) == 12, "skut_state");
+_Static_assert(sizeof(struct skut_totals) == 32 && offsetof(struct skut_totals, went_back) == 8 && offsetof(struct skut_totals, refused) == 24, "skut_totals");
+_Static_assert(sizeof(struct skut_state) == 64 && offsetof(struct skut_state, has_last) == 12 && offsetof(struct skut_state, totals) == 32, "skut_state");
 _Static_assert(sizeof(struct skut_tally) == 24 && offsetof(struct skut_tally, too_soon) == 16, "skut_tally");
-_Static_assert(sizeof(struct skut_table_answer) == 104 && offsetof(struct skut_table_answer, state) == 72, "skut_table_answer");
+_Static_assert(sizeof(struct skut_table_answer) == 136 && offsetof(struct skut_table_answer, state) == 72, "skut_table_answer");
 
 #define PLACES 8192
 
@@ -18,23 +19,30 @@ static uint64_t seqs[PLACES];
 static int64_t secs[PLACES];
 static uint8_t image[9 * PLACES + 21];
 
-/* The state to go on with: the answer's where it gives one, else the one that the caller has, whose arrays a refused call leaves as they were. */
+/* The state to go on with: the answer's where it gives one, else the one that the caller has, whose arrays a refused call leaves as they were. Refused with 16
+ * or 17, an offer gives one that counts the refusal. */
 static struct skut_state kept(struct skut_state had, struct skut_table_answer said)
 {
-    return said.answer.number == SKUT_DONE ? said.state : had;
+    uint32_t number = said.answer.number;
+    return number == SKUT_DONE || number == SKUT_OFFERED_OUTSIDE || number == SKUT_OFFERED_DROPS ? said.state : had;
 }
 
-/* The same after skut_offer_pairs or skut_extend_from: refused at a record, they give what stood before it. */
+/* The same after skut_offer_pairs or skut_extend_from: refused with 31, too, they give what stood before that record. */
 static struct skut_state kept_of_list(struct skut_state had, struct skut_table_answer said)
 {
-    uint32_t number = said.answer.number;
-    return number == SKUT_OFFERED_OUTSIDE || number == SKUT_OFFERED_DROPS ? said.state : kept(had, said);
+    return said.answer.number == SKUT_TOTALS_FULL ? said.state : kept(had, said);
 }
 
 /* What came of one offer that was not refused, in words. */
 static const char *outcome(struct skut_tally tally)
 {
     return tally.recorded == 1 ? "recorded" : tally.went_back == 1 ? "went back" : "too soon";
+}
+
+static void print_totals(const char *since, struct skut_totals totals)
+{
+    printf("since the table was %s: %llu recorded, %llu went back, %llu too soon, %llu refused\n", since, (unsigned long long)totals.recorded,
+           (unsigned long long)totals.went_back, (unsigned long long)totals.too_soon, (unsigned long long)totals.refused);
 }
 
 int main(void)
@@ -61,6 +69,7 @@ int main(void)
     said = skut_offer(table, seqs, PLACES, secs, PLACES, 150, 125);
     table = kept(table, said);
     printf("one offer, second 125: refused %u: %zu pairs\n", said.answer.number, table.count);
+    print_totals("made", table.totals);
 
     struct skut_answer saved = skut_save_strict(table, seqs, PLACES, secs, PLACES, image, sizeof image);
     if (saved.number != SKUT_DONE) {
@@ -81,5 +90,6 @@ int main(void)
         return 1;
     }
     printf("sequence 163: second %lld or later\n", (long long)(int64_t)found.b);
+    print_totals("restored", table.totals); /* an image does not carry them */
     return 0;
 }

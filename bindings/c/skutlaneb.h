@@ -10,8 +10,12 @@
  * while it writes. If it then reads what it has just written, its answer is wrong, and a call that writes an image can write past the output's end,
  * since the length that it counted first is not that of the values which it finds. Offers write to both arrays of a table, so these are apart, too.
  *
- * A refused call leaves every array as it was and returns no state: keep the state you have until an answer gives one. One case is different:
- * skut_offer_pairs and skut_extend_from, refused at a record (16 or 17; of skut_extend_from 17), keep and return what stood before that record. example.c shows it.
+ * A refused call leaves every array as it was and returns no state: keep the state you have until an answer gives one. Two cases are different:
+ * - skut_offer, refused with 16 or 17, leaves the arrays as they were but returns a state to go on with: the one that it was given, its total `refused` one more
+ *   and nothing else of it another. Who goes on with the one given loses that count alone.
+ * - skut_offer_pairs and skut_extend_from, refused at a record (31, 16 or 17; of skut_extend_from 31 or 17), keep and return what stood before that record; with 16
+ *   or 17 the state's total `refused` is one more.
+ * example.c shows both.
  *
  * No call uses a heap or keeps anything after it returns. What stack each call needs stands beside it; a test holds the library to that. */
 #ifndef SKUTLANEB_H
@@ -28,7 +32,7 @@ extern "C" {
  * not link. The function does nothing. The tie is a pointer that nothing reads, so a file that includes this header needs the library, also where it calls nothing;
  * with SKUT_NO_TIE defined, for who wants the types alone or finds the calls by dlsym, there is no tie. A compiler without GNU's attributes leaves it out, and one
  * without `retain` lets the linker's --gc-sections drop it. */
-void skut_layout_3(void);
+void skut_layout_4(void);
 #if defined(__GNUC__) && !defined(SKUT_NO_TIE)
 #if defined(__has_attribute)
 #if __has_attribute(retain)
@@ -38,7 +42,7 @@ void skut_layout_3(void);
 #ifndef SKUT_KEPT
 #define SKUT_KEPT __attribute__((used))
 #endif
-static void (*const skut_layout_used)(void) SKUT_KEPT = skut_layout_3;
+static void (*const skut_layout_used)(void) SKUT_KEPT = skut_layout_4;
 #undef SKUT_KEPT
 #endif
 
@@ -52,27 +56,38 @@ struct skut_answer {
     uint64_t byte, bit;
 };
 
+/* How many offers a table has counted since it was made or restored, by what became of each. An offer is one pair, also in a list. All are counted but those refused
+ * with 14, 11, 12, 13 or 31, so that the four add up to the number of offers counted. Creation and restore set them to 0: an image does not carry them. */
+struct skut_totals {
+    uint64_t recorded;  /* recorded, whether or not the pair is still kept */
+    uint64_t went_back; /* skipped, as the second was below the last recorded one */
+    uint64_t too_soon;  /* skipped, as the second was not below that one but less than the interval above it */
+    uint64_t refused;   /* refused with 16 or 17 */
+};
+
 /* A table's state. Its pairs stand in two arrays of the caller's, each of as many places as the capacity says and at least one; `count` places
  * are in use. `has_last` of 0 says that no second was recorded yet, 1 that `last` is the last recorded one; a state with any other number there is
- * refused by 14 (by skut_offer_pairs after 18). A caller passes a state on as a call returned it, with the same arrays, and changes nothing in either. */
+ * refused by 14 (by skut_offer_pairs after 18), and so is one whose totals add up to more than 2^64-1. A caller passes a state on as a call returned it, with the
+ * same arrays, and changes nothing in either. */
 struct skut_state {
     size_t count;
     uint32_t capacity;
     uint32_t has_last;
     uint64_t interval_secs;
     int64_t last;
+    struct skut_totals totals;
 };
 
 /* What came of the pairs offered. A pair that is not refused is recorded, or it is skipped, for one of two reasons: it went back, its second being below the
- * last recorded one, or it came too soon, its second being not below that one but less than the interval above it. Skipped, it changes neither the state
- * nor an array. At interval 0 none comes too soon; before a second was recorded none is skipped. The last recorded second is the state's `last`, and not
- * the last of the array: its pair need not be kept any more. */
+ * last recorded one, or it came too soon, its second being not below that one but less than the interval above it. Skipped, it changes no array, and of the
+ * state only the total of its reason, which is one more. At interval 0 none comes too soon; before a second was recorded none is skipped. The last recorded
+ * second is the state's `last`, and not the last of the array: its pair need not be kept any more. A pair that is refused is not counted here. */
 struct skut_tally {
     size_t recorded, went_back, too_soon;
 };
 
 /* What a call answers that returns a state. Where it returns none, `state` is one that every call refuses by 14, skut_offer_pairs after 18, and the numbers of
- * `tally` are 0; they are 0, too, where a table is made or restored. */
+ * `tally` are 0; they are 0, too, where a table is made or restored, and where skut_offer is refused with 16 or 17. */
 struct skut_table_answer {
     struct skut_answer answer;
     struct skut_tally tally;
@@ -96,7 +111,7 @@ enum {
     SKUT_SEQUENCE_DROPS = 11,   /* a sequence is below the one before it: index */
     SKUT_SECOND_DROPS = 12,     /* a second is below the one before it: index */
     SKUT_SECOND_OUTSIDE = 13,   /* a second is outside the years 0001 to 9999: index */
-    SKUT_STATE_DISAGREES = 14,  /* the state and the arrays do not fit together */
+    SKUT_STATE_DISAGREES = 14,  /* the state and the arrays do not fit together, or the totals add up to more than 2^64-1 */
     SKUT_SETTINGS = 15,         /* the capacity is above 8,192 or the interval above 2^63-1 */
     SKUT_OFFERED_OUTSIDE = 16,  /* the offered second is outside the years 0001 to 9999: of a list, the position */
     SKUT_OFFERED_DROPS = 17,    /* the offered sequence is below the last kept one: of a list, the position */
@@ -106,7 +121,8 @@ enum {
     SKUT_ROOM = 21,             /* the output is too short: the bytes needed */
     SKUT_INPUT_TOO_LONG = 22,   /* the input of the program listing is above 16,384 bytes; no call here answers it */
     SKUT_WIDTH = 23,            /* a bit width is above 64, or outside 1..32 in sign extension */
-    SKUT_BITS_SHORT = 24        /* fewer bits are left than asked for: the bits left, 0 to 63 */
+    SKUT_BITS_SHORT = 24,       /* fewer bits are left than asked for: the bits left, 0 to 63 */
+    SKUT_TOTALS_FULL = 31       /* the totals add up to 2^64-1, and one more offer would pass that: of a list, the position */
 };
 
 /* Which of the kept keys answers a lookup. */
@@ -127,17 +143,20 @@ struct skut_table_answer skut_with_config(uint32_t capacity, uint64_t interval_s
  * Stack: 256 bytes. */
 struct skut_answer skut_check(struct skut_state state, const uint64_t *seqs, size_t seqs_len, const int64_t *secs, size_t secs_len);
 
-/* Offers a pair: 16; then it may be skipped; then 17; else it is recorded. Where it is not refused, exactly one number of `tally` is 1. Stack: 512 bytes. */
+/* Offers a pair: 31; 16; then it may be skipped; then 17; else it is recorded. Where it is not refused, exactly one number of `tally` is 1. With 16 or 17 a state
+ * is returned, which counts that; with 31 nothing is counted, and none is returned. Stack: 640 bytes. */
 struct skut_table_answer skut_offer(struct skut_state state, uint64_t *seqs, size_t seqs_len, int64_t *secs, size_t secs_len, uint64_t seq, int64_t sec);
 
-/* Offers pairs in order, from two lists of one length, up to the first that is refused (16, 17). Lists of different length are refused before all else: 18.
- * Where a state is returned, the numbers of `tally` add up to the length or, with 16 or 17, to the position that is told. Stack: 768 bytes. */
+/* Offers pairs in order, from two lists of one length, up to the first that is refused (31, 16, 17). Lists of different length are refused before all else: 18.
+ * Where a state is returned, the numbers of `tally` add up to the length or, with 31, 16 or 17, to the position that is told. With 16 or 17 the state counts that
+ * refusal; with 31 it is as the pairs before left it. Stack: 1,152 bytes. */
 struct skut_table_answer skut_offer_pairs(struct skut_state state, uint64_t *seqs, size_t seqs_len, int64_t *secs, size_t secs_len,
                                           const uint64_t *from_seqs, size_t from_seqs_len, const int64_t *from_secs, size_t from_secs_len);
 
-/* Offers the pairs of another table, whose arrays are not those of the own one, up to the first that is refused (17). Where a table is bad (14, 11, 12, 13),
+/* Offers the pairs of another table, whose arrays are not those of the own one, up to the first that is refused (31, 17). Where a table is bad (14, 11, 12, 13),
  * which of the two is told last: 0 for the own one, 1 for the other. Where a state is returned, the numbers of `tally` add up to the other table's `count` or,
- * with 17, to the position that is told. Stack: 768 bytes. */
+ * with 31 or 17, to the position that is told. With 17 the state counts that refusal; with 31 it is as the pairs before left it. The other table's totals are
+ * checked, by 14, and else they do not matter. Stack: 1,408 bytes. */
 struct skut_table_answer skut_extend_from(struct skut_state state, uint64_t *seqs, size_t seqs_len, int64_t *secs, size_t secs_len,
                                           struct skut_state other, const uint64_t *other_seqs, size_t other_seqs_len,
                                           const int64_t *other_secs, size_t other_secs_len);
@@ -155,10 +174,10 @@ struct skut_answer skut_find_seq(struct skut_state state, const uint64_t *seqs, 
  * they read back as other pairs: (0, 0), (2^33, 60) come back as (0, 0), (0, 60). Stack: 640 bytes. */
 struct skut_answer skut_save(struct skut_state state, const uint64_t *seqs, size_t seqs_len, const int64_t *secs, size_t secs_len, uint8_t *out, size_t out_len);
 
-/* The same, but an image that would read back as other pairs is refused: 20, 21. The table comes back as it was from skut_restore_with_interval with the
- * table's own interval, if its capacity is 8,192, it was made by skut_new, skut_with_config or a restore and by offers alone, and nobody changes the bytes.
- * At the default interval, 10, it does from skut_restore, too. Else its pairs come back as long as the bytes are the same, and the rest may differ, since the
- * image has neither the settings nor the last recorded second:
+/* The same, but an image that would read back as other pairs is refused: 20, 21. The table comes back as it was but for its totals, which are 0, from
+ * skut_restore_with_interval with the table's own interval, if its capacity is 8,192, it was made by skut_new, skut_with_config or a restore and by offers alone,
+ * and nobody changes the bytes. At the default interval, 10, it does from skut_restore, too. Else its pairs come back as long as the bytes are the same, and the
+ * rest may differ, since the image has neither the settings nor the last recorded second:
  * - capacity 8,192, interval 60, and (5, 100) offered: it comes back from skut_restore with interval 10, and records (6, 110), which came too soon before;
  * - capacity 3, interval 0, and (1, 10), (2, 20), (3, 30), (4, 40) offered: `last` is 40, and comes back as 30, with capacity 8,192, from skut_restore with
  *   interval 10, and from skut_restore_with_interval with the one that is named;
@@ -167,14 +186,14 @@ struct skut_answer skut_save(struct skut_state state, const uint64_t *seqs, size
 struct skut_answer skut_save_strict(struct skut_state state, const uint64_t *seqs, size_t seqs_len, const int64_t *secs, size_t secs_len, uint8_t *out, size_t out_len);
 
 /* The table of an image, of capacity 8,192 and interval 10, its pairs in arrays of at least 8,192 places, its last recorded second that of the last
- * pair: 14, 1 to 10, 11 to 13; 4 to 8 with their place. Bytes after the image are ignored. The arrays' places from `count` on keep what they held.
+ * pair, its totals 0: 14, 1 to 10, 11 to 13; 4 to 8 with their place. Bytes after the image are ignored. The arrays' places from `count` on keep what they held.
  * skut_save_strict says when this is the table that was saved. Stack: 133,120 bytes; and, in a program that is linked without -z now, until a call has found
- * memset and memcpy, what the dynamic linker takes to find them, which differs by machine: 134,672 bytes in all were measured on one. */
+ * memset and memcpy, what the dynamic linker takes to find them, which differs by machine: 134,768 bytes in all were measured on one. */
 struct skut_table_answer skut_restore(const uint8_t *bytes, size_t bytes_len, uint64_t *seqs, size_t seqs_len, int64_t *secs, size_t secs_len);
 
 /* The same, of the interval that is named: 15 where that is above 2^63-1, before all else; then as skut_restore, which is this with 10. An image has no
  * interval, so name the one that the table had: 60, where it is slatedb's and has its defaults. Stack: 133,120 bytes; until memset and memcpy are found, as in
- * skut_restore, 134,696 bytes in all were measured. */
+ * skut_restore, 134,792 bytes in all were measured. */
 struct skut_table_answer skut_restore_with_interval(const uint8_t *bytes, size_t bytes_len, uint64_t *seqs, size_t seqs_len, int64_t *secs, size_t secs_len,
                                                     uint64_t interval_secs);
 

@@ -48,10 +48,30 @@ void answers(const char *call, const char *when, struct skut_answer got, uint32_
     answers_all(call, when, got, (struct skut_answer){number, a, b, c, 0, 0});
 }
 
+static int same_totals(struct skut_totals one, struct skut_totals other)
+{
+    return one.recorded == other.recorded && one.went_back == other.went_back && one.too_soon == other.too_soon && one.refused == other.refused;
+}
+
 int same_state(struct skut_state one, struct skut_state other)
 {
     return one.count == other.count && one.capacity == other.capacity && one.has_last == other.has_last && one.interval_secs == other.interval_secs &&
-           one.last == other.last;
+           one.last == other.last && same_totals(one.totals, other.totals);
+}
+
+struct skut_state counting(struct skut_state state, struct skut_tally tally, uint64_t refused)
+{
+    state.totals.recorded += tally.recorded;
+    state.totals.went_back += tally.went_back;
+    state.totals.too_soon += tally.too_soon;
+    state.totals.refused += refused;
+    return state;
+}
+
+struct skut_state uncounted(struct skut_state state)
+{
+    state.totals = (struct skut_totals)NO_TOTALS;
+    return state;
 }
 
 #define HELD 0x5555555555555555
@@ -83,9 +103,12 @@ static void has_state(const char *call, const char *when, struct skut_table_answ
 {
     struct skut_answer due = {number, a, 0, 0, 0, 0};
     int truth = same(got.answer, due) && same_tally(got.tally, tally) && same_state(got.state, state);
-    holds(call, when, truth, "expected %s, and it is %s, %zu recorded, %zu went back, %zu too soon, count %zu, capacity %u, interval %llu, last %lld", shown(due),
-          shown(got.answer), got.tally.recorded, got.tally.went_back, got.tally.too_soon, got.state.count, got.state.capacity,
-          (unsigned long long)got.state.interval_secs, (long long)got.state.last);
+    struct skut_totals totals = got.state.totals;
+    holds(call, when, truth,
+          "expected %s, and it is %s, %zu recorded, %zu went back, %zu too soon, count %zu, capacity %u, interval %llu, last %lld, totals %llu, %llu, %llu, %llu",
+          shown(due), shown(got.answer), got.tally.recorded, got.tally.went_back, got.tally.too_soon, got.state.count, got.state.capacity,
+          (unsigned long long)got.state.interval_secs, (long long)got.state.last, (unsigned long long)totals.recorded, (unsigned long long)totals.went_back,
+          (unsigned long long)totals.too_soon, (unsigned long long)totals.refused);
 }
 
 void gives(const char *call, const char *when, struct skut_table_answer got, struct skut_tally tally, struct skut_state state)

@@ -17,6 +17,9 @@
 #define TALLY(...) ((struct skut_tally){__VA_ARGS__})
 #define NO_PAIR TALLY(.recorded = 0)
 
+/* The totals of a state that has counted no offer, as its last initializer. */
+#define NO_TOTALS {.recorded = 0}
+
 /* A case, and what is said of it if it failed, as by printf. */
 void holds(const char *call, const char *when, int truth, const char *said, ...);
 
@@ -29,7 +32,7 @@ void answers_all(const char *call, const char *when, struct skut_answer got, str
 /* A call that is not refused: what it counts, and its state. */
 void gives(const char *call, const char *when, struct skut_table_answer got, struct skut_tally tally, struct skut_state state);
 
-/* A list of offers that is refused at a record: the number; the position, to which the tally adds up; and the state that those before it left. */
+/* A list of offers that is refused at a record: the number; the position, to which the tally adds up; and the state that its offer left. */
 void stops(const char *call, const char *when, struct skut_table_answer got, uint32_t number, struct skut_tally tally, struct skut_state state);
 
 /* A call that is refused and gives no state: what it answers, that it counts nothing, and that every call refuses the state that stands there. Its only value is a. */
@@ -43,6 +46,10 @@ const char *taken_by(struct skut_state state);
 
 int same_state(struct skut_state one, struct skut_state other);
 
+/* The state, with the offers of a tally and these refused ones counted more, and with none counted. */
+struct skut_state counting(struct skut_state state, struct skut_tally tally, uint64_t refused);
+struct skut_state uncounted(struct skut_state state);
+
 /* Fills two arrays of PLACES places with a value that no case stores, and gives whether they still hold it from a place on. */
 void hold(uint64_t *seqs, int64_t *secs);
 int held_from(size_t place, const uint64_t *seqs, const int64_t *secs);
@@ -53,6 +60,7 @@ void claim_cases(void);
 void reason_cases(void);
 void place_cases(void);
 void interval_cases(void);
+void total_cases(void);
 
 /* Prints `N passed, M failed`, and gives whether nothing failed. */
 int all_passed(void);

@@ -36,12 +36,12 @@ static void as_it_was(void)
     const int64_t s[] = {0, 60};
     struct skut_state table = skut_offer_pairs(skut_new().state, ARRAYS, q, 2, s, 2).state;
     answers("skut_save_strict", "the default settings", skut_save_strict(table, ARRAYS, image, sizeof image), SKUT_DONE, 33, 0, 0);
-    gives("skut_restore", "the table is as it was", restored(33), NO_PAIR, table);
+    gives("skut_restore", "the table is as it was but for its totals", restored(33), NO_PAIR, uncounted(table));
     pairs("skut_restore", "the pairs are as they were", q, s, 2);
 
     const uint64_t other[] = {101, 165};
     image[16] ^= 1;
-    gives("skut_restore", "a changed bit is taken", restored(33), NO_PAIR, table);
+    gives("skut_restore", "a changed bit is taken", restored(33), NO_PAIR, uncounted(table));
     pairs("skut_restore", "a changed bit makes other pairs", other, s, 2);
 }
 
@@ -49,7 +49,7 @@ static void other_settings(void)
 {
     const uint64_t q[] = {1, 2, 3, 4}, kept_q[] = {1, 3};
     const int64_t s[] = {10, 20, 30, 40}, kept_s[] = {10, 30};
-    struct skut_state saved = {2, 3, 1, 0, 40}, back = {2, PLACES, 1, 10, 30}, back_at_0 = {2, PLACES, 1, 0, 30};
+    struct skut_state saved = {2, 3, 1, 0, 40, {.recorded = 4}}, back = {2, PLACES, 1, 10, 30, NO_TOTALS}, back_at_0 = {2, PLACES, 1, 0, 30, NO_TOTALS};
     struct skut_table_answer table = skut_offer_pairs(skut_with_config(3, 0).state, ARRAYS, q, 4, s, 4);
     gives("skut_offer_pairs", "capacity 3 drops the newest pair", table, TALLY(.recorded = 4), saved);
     pairs("skut_offer_pairs", "capacity 3 keeps two pairs", kept_q, kept_s, 2);
@@ -65,12 +65,13 @@ static void other_interval(void)
 {
     const uint64_t q[] = {5, 6};
     const int64_t s[] = {100, 110};
-    struct skut_state table = skut_offer(skut_with_config(PLACES, 60).state, ARRAYS, 5, 100).state, back = {1, PLACES, 1, 10, 100}, after = {2, PLACES, 1, 10, 110};
-    gives("skut_offer", "110 after 100 is too soon at interval 60", skut_offer(table, ARRAYS, 6, 110), TALLY(.too_soon = 1), table);
+    struct skut_state table = skut_offer(skut_with_config(PLACES, 60).state, ARRAYS, 5, 100).state, too_soon = counting(table, TALLY(.too_soon = 1), 0);
+    struct skut_state back = {1, PLACES, 1, 10, 100, NO_TOTALS}, after = {2, PLACES, 1, 10, 110, {.recorded = 1}};
+    gives("skut_offer", "110 after 100 is too soon at interval 60", skut_offer(table, ARRAYS, 6, 110), TALLY(.too_soon = 1), too_soon);
     struct skut_answer written = skut_save_strict(table, ARRAYS, image, sizeof image);
-    gives("skut_restore_with_interval", "interval 60 comes back as it was", restored_at(60, written.a), NO_PAIR, table);
+    gives("skut_restore_with_interval", "interval 60 comes back as it was but for its totals", restored_at(60, written.a), NO_PAIR, uncounted(table));
     pairs("skut_restore_with_interval", "interval 60 comes back with the pair", q, s, 1);
-    gives("skut_offer", "110 is too soon again", skut_offer(table, ARRAYS, 6, 110), TALLY(.too_soon = 1), table);
+    gives("skut_offer", "110 is too soon again", skut_offer(table, ARRAYS, 6, 110), TALLY(.too_soon = 1), too_soon);
     gives("skut_restore", "interval 60 comes back as 10", restored(written.a), NO_PAIR, back);
     pairs("skut_restore", "interval 60 comes back with the pair", q, s, 1);
     gives("skut_offer", "110, which was too soon, is recorded", skut_offer(back, ARRAYS, 6, 110), TALLY(.recorded = 1), after);
@@ -81,7 +82,7 @@ static void own_state(void)
 {
     const uint64_t q[] = {1};
     const int64_t s[] = {10};
-    struct skut_state made = {1, PLACES, 1, 10, 20}, back = {1, PLACES, 1, 10, 10};
+    struct skut_state made = {1, PLACES, 1, 10, 20, {1, 2, 3, 4}}, back = {1, PLACES, 1, 10, 10, NO_TOTALS};
     seqs[0] = 1;
     secs[0] = 10;
     answers("skut_check", "last 20 above the last pair", skut_check(made, ARRAYS), SKUT_DONE, 0, 0, 0);
@@ -99,7 +100,7 @@ static void plain_save(void)
     answers("skut_save_strict", "a step of 2^33", skut_save_strict(table, ARRAYS, image, sizeof image), SKUT_WIDE, 0, 1, 0);
     struct skut_answer saved = skut_save(table, ARRAYS, image, sizeof image);
     answers("skut_save", "a step of 2^33", saved, SKUT_DONE, 36, 0, 0);
-    gives("skut_restore", "a step of 2^33 is taken", restored(saved.a), NO_PAIR, table);
+    gives("skut_restore", "a step of 2^33 is taken", restored(saved.a), NO_PAIR, uncounted(table));
     pairs("skut_restore", "a step of 2^33 comes back as 0", back, s, 2);
 }
 

@@ -73,7 +73,7 @@ static void as_restore(const struct input *input)
 {
     char when[80];
     size_t length = written(input), pairs = input->number == SKUT_DONE ? input->pairs : 0;
-    struct skut_state state = {pairs, PLACES, pairs > 0, 10, pairs > 0 ? input->secs[pairs - 1] : 0};
+    struct skut_state state = {pairs, PLACES, pairs > 0, 10, pairs > 0 ? input->secs[pairs - 1] : 0, NO_TOTALS};
     hold(plain_seqs, plain_secs);
     struct skut_table_answer plain = skut_restore(image, length, PLAIN);
     snprintf(when, sizeof when, "answers %u to %zu bytes, and its interval is 10", input->number, length);
@@ -123,9 +123,9 @@ static void offered(const char *when, struct skut_table_answer restored, int64_t
 {
     struct skut_state after = restored.state;
     if (tally.recorded == 1) {
-        after = (struct skut_state){2, PLACES, 1, restored.state.interval_secs, sec};
+        after = (struct skut_state){2, PLACES, 1, restored.state.interval_secs, sec, NO_TOTALS};
     }
-    gives("skut_offer", when, skut_offer(restored.state, ARRAYS, 6, sec), tally, after);
+    gives("skut_offer", when, skut_offer(restored.state, ARRAYS, 6, sec), tally, counting(after, tally, 0));
 }
 
 /* The image of one pair has 29 bytes. */
@@ -151,7 +151,7 @@ static void next_offers(void)
     offered("restored at interval 2^63-1: the first second after 100 went back", restored_at(INT64_MAX), FIRST_SECOND, TALLY(.went_back = 1));
 }
 
-/* At capacity 8,192 a table of any interval, saved strictly, comes back as it was where the restore names its own. */
+/* At capacity 8,192 a table of any interval, saved strictly, comes back as it was but for its totals where the restore names its own. */
 static void as_it_was(void)
 {
     const uint64_t q[] = {5, 6, 7, 7};
@@ -162,7 +162,7 @@ static void as_it_was(void)
         struct skut_state table = skut_offer_pairs(skut_with_config(PLACES, intervals[i]).state, PLAIN, q, 4, s, 4).state;
         struct skut_answer saved = skut_save_strict(table, PLAIN, image, sizeof image);
         hold(seqs, secs);
-        gives(CALL, when, skut_restore_with_interval(image, saved.a, ARRAYS, table.interval_secs), NO_PAIR, table);
+        gives(CALL, when, skut_restore_with_interval(image, saved.a, ARRAYS, table.interval_secs), NO_PAIR, uncounted(table));
         int same = memcmp(seqs, plain_seqs, table.count * sizeof seqs[0]) == 0 && memcmp(secs, plain_secs, table.count * sizeof secs[0]) == 0;
         holds(CALL ", the pairs", when, same && held_from(table.count, seqs, secs), "they are others");
     }

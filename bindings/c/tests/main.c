@@ -12,5 +12,6 @@ int main(void)
     reason_cases();
     place_cases();
     interval_cases();
+    total_cases();
     return all_passed() ? 0 : 1;
 }

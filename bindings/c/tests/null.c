@@ -53,7 +53,7 @@ static void bad_tables(struct skut_state table, const struct lending *lent)
 
 static void good_tables(struct skut_state table)
 {
-    struct skut_state as_new = {0, PLACES, 0, 10, 0}, least = {0, 0, 0, 0, 0};
+    struct skut_state as_new = {0, PLACES, 0, 10, 0, NO_TOTALS}, least = {0, 0, 0, 0, 0, NO_TOTALS};
     gives("skut_new", "has no slice", skut_new(), NO_PAIR, as_new);
     gives("skut_with_config", "has no slice", skut_with_config(0, 0), NO_PAIR, least);
     answers("skut_check", "an empty table in room", skut_check(table, ROOM), SKUT_DONE, 0, 0, 0);

@@ -1,4 +1,4 @@
-/* Why an offer is skipped: the second that decides, where each reason begins and ends, and what neither changes. */
+/* Why an offer is skipped: the second that decides, where each reason begins and ends, and that neither changes more than a total. */
 #include "cases.h"
 
 #include <string.h>
@@ -54,15 +54,15 @@ static struct skut_state made_at(uint64_t interval_secs, int64_t sec)
     return made(PLACES, interval_secs, q, &sec, 1);
 }
 
-/* One offer to a table with room for it: recorded, the pair follows the kept ones; skipped, the state and the arrays are as they were. */
+/* One offer to a table with room for it: recorded, the pair follows the kept ones; skipped, the state, but for its totals, and the arrays are as they were. */
 static void offered(const char *when, struct skut_state table, uint64_t seq, int64_t sec, struct skut_tally tally)
 {
     struct skut_state after = table;
     if (tally.recorded == 1) {
-        after = (struct skut_state){table.count + 1, table.capacity, 1, table.interval_secs, sec};
+        after = (struct skut_state){table.count + 1, table.capacity, 1, table.interval_secs, sec, table.totals};
         due_at(table.count, seq, sec);
     }
-    gives("skut_offer", when, skut_offer(table, ARRAYS, seq, sec), tally, after);
+    gives("skut_offer", when, skut_offer(table, ARRAYS, seq, sec), tally, counting(after, tally, 0));
     as_due("skut_offer, the arrays", when);
 }
 
@@ -128,17 +128,23 @@ static void restored(void)
     offered("restored at interval 60: 90 is recorded", table, 9, 90, RECORDED);
 }
 
+/* One offer that is refused: the arrays are as they were, and so is the state, but that it counts the refusal. */
+static void refused(const char *when, struct skut_state table, uint64_t seq, int64_t sec, uint32_t number)
+{
+    stops("skut_offer", when, skut_offer(table, ARRAYS, seq, sec), number, NO_PAIR, counting(table, NO_PAIR, 1));
+}
+
 /* 16 comes before the skip, and 17 after it. */
 static void order(void)
 {
     struct skut_state table = made_at(60, 100);
     offered("a sequence drops where a second went back", table, 4, 99, WENT_BACK);
     offered("a sequence drops where a second is too soon", table, 4, 159, TOO_SOON);
-    gives_none("skut_offer", "a sequence drops where nothing is skipped", skut_offer(table, ARRAYS, 4, 160), SKUT_OFFERED_DROPS, 0);
-    gives_none("skut_offer", "a second outside the years that is below the last", skut_offer(table, ARRAYS, 6, FIRST_SECOND - 1), SKUT_OFFERED_OUTSIDE, 0);
+    refused("a sequence drops where nothing is skipped", table, 4, 160, SKUT_OFFERED_DROPS);
+    refused("a second outside the years that is below the last", table, 6, FIRST_SECOND - 1, SKUT_OFFERED_OUTSIDE);
     as_due("skut_offer, the arrays", "refused by 17 and by 16");
     table = made_at(INT64_MAX, 100);
-    gives_none("skut_offer", "a second outside the years within the interval", skut_offer(table, ARRAYS, 6, LAST_SECOND + 1), SKUT_OFFERED_OUTSIDE, 0);
+    refused("a second outside the years within the interval", table, 6, LAST_SECOND + 1, SKUT_OFFERED_OUTSIDE);
     as_due("skut_offer, the arrays", "refused by 16");
 }
 
@@ -149,7 +155,7 @@ static void lists(void)
     const int64_t s[] = {100, 99, 109, 110, 100, 125, 200, 300};
     const int64_t outside[] = {100, 99, 109, 110, 100, 125, LAST_SECOND + 1, 300};
     const struct skut_tally tally = {.recorded = 3, .went_back = 2, .too_soon = 1};
-    struct skut_state after = {3, PLACES, 1, 10, 125};
+    struct skut_state after = {3, PLACES, 1, 10, 125, {.recorded = 3, .went_back = 2, .too_soon = 1}};
     const struct {
         const char *when;
         const int64_t *secs;
@@ -166,7 +172,7 @@ static void lists(void)
         if (offers[i].number == SKUT_DONE) {
             gives("skut_offer_pairs", offers[i].when, said, tally, after);
         } else {
-            stops("skut_offer_pairs", offers[i].when, said, offers[i].number, tally, after);
+            stops("skut_offer_pairs", offers[i].when, said, offers[i].number, tally, counting(after, NO_PAIR, 1));
         }
         due_at(0, 5, 100);
         due_at(1, 6, 110);
@@ -176,7 +182,8 @@ static void lists(void)
 
     const uint64_t low[] = {1, 1, 1};
     const int64_t near[] = {124, 125, 134};
-    gives("skut_offer_pairs", "all are skipped", skut_offer_pairs(after, ARRAYS, low, 3, near, 3), TALLY(.went_back = 1, .too_soon = 2), after);
+    const struct skut_tally skipped = {.went_back = 1, .too_soon = 2};
+    gives("skut_offer_pairs", "all are skipped", skut_offer_pairs(after, ARRAYS, low, 3, near, 3), skipped, counting(after, skipped, 0));
     as_due("skut_offer_pairs, the arrays", "all are skipped");
 }
 
@@ -190,7 +197,7 @@ static void extended(void)
     /* of 25, the last recorded second: three below it, two within 15 above it, one at 15 */
     const uint64_t q[] = {1, 2, 3, 4, 5, 6};
     const int64_t s[] = {10, 20, 24, 30, 39, 40};
-    struct skut_state table = made_at(15, 25), after = {2, PLACES, 1, 15, 40};
+    struct skut_state table = made_at(15, 25), after = {2, PLACES, 1, 15, 40, {.recorded = 2, .went_back = 3, .too_soon = 2}};
     struct skut_table_answer said = skut_extend_from(table, ARRAYS, other_of(q, s, 6), OTHER);
     gives("skut_extend_from", "each number of the tally", said, TALLY(.recorded = 1, .went_back = 3, .too_soon = 2), after);
     due_at(1, 6, 40);
@@ -201,7 +208,8 @@ static void extended(void)
     const int64_t past[] = {5, 10, 20, 30};
     table = made_at(10, 15);
     said = skut_extend_from(table, ARRAYS, other_of(low, past, 4), OTHER);
-    stops("skut_extend_from", "both reasons, then 17", said, SKUT_OFFERED_DROPS, TALLY(.went_back = 2, .too_soon = 1), table);
+    const struct skut_tally skipped = {.went_back = 2, .too_soon = 1};
+    stops("skut_extend_from", "both reasons, then 17", said, SKUT_OFFERED_DROPS, skipped, counting(table, skipped, 1));
     as_due("skut_extend_from, the arrays", "both reasons, then 17");
 }
 

@@ -77,7 +77,7 @@ pub enum Error {
     SecondDrops { index: u64 },
     /// 13: a second is outside the years 0001 to 9999.
     SecondOutside { index: u64 },
-    /// 14: a table's state and its arrays do not fit together.
+    /// 14: a table's state and its arrays do not fit together, or its totals add up to more than 2^64-1.
     StateDisagrees,
     /// 15: the capacity is above 8,192 or the interval above 2^63-1.
     Settings,
@@ -99,6 +99,8 @@ pub enum Error {
     Width,
     /// 24: fewer bits are left than asked for, and how many are: 0 to 63.
     BitsShort { left: u8 },
+    /// 31: the table's totals add up to 2^64-1, and one more offer would pass that. The offer is not counted.
+    TotalsFull,
     /// A number that is not on the list: the library is not the one that this crate was written for.
     Unlisted { number: u32 },
 }
@@ -131,6 +133,7 @@ impl Error {
             Error::InputTooLong => 22,
             Error::Width => 23,
             Error::BitsShort { .. } => 24,
+            Error::TotalsFull => 31,
             Error::Unlisted { number } => number,
         }
     }
@@ -174,6 +177,7 @@ impl Error {
             22 => Error::InputTooLong,
             23 => Error::Width,
             24 => Error::BitsShort { left: answer.a as u8 },
+            31 => Error::TotalsFull,
             number => Error::Unlisted { number },
         })
     }
@@ -200,7 +204,7 @@ impl fmt::Display for Error {
             Error::SequenceDrops { index } => write!(f, "sequence {index} is below the one before it"),
             Error::SecondDrops { index } => write!(f, "second {index} is below the one before it"),
             Error::SecondOutside { index } => write!(f, "second {index} is outside the years 0001 to 9999"),
-            Error::StateDisagrees => f.write_str("the table's state and its pairs do not fit together"),
+            Error::StateDisagrees => f.write_str("the table's state and its pairs do not fit together, or its totals are too large"),
             Error::Settings => f.write_str("the capacity is above 8,192 or the interval above 2^63-1 seconds"),
             Error::OfferedOutside => f.write_str("the second is outside the years 0001 to 9999"),
             Error::OfferedDrops => f.write_str("the sequence number is below the last one that the table keeps"),
@@ -216,6 +220,7 @@ impl fmt::Display for Error {
             Error::BitsShort { left: 0 } => f.write_str("no bit is left, and more were asked for"),
             Error::BitsShort { left: 1 } => f.write_str("only 1 bit is left, and more were asked for"),
             Error::BitsShort { left } => write!(f, "only {left} bits are left, and more were asked for"),
+            Error::TotalsFull => f.write_str("the table has counted 2^64-1 offers, and cannot count one more"),
             Error::Unlisted { number } => {
                 write!(f, "the library answered {number}, which this crate does not know: the two are of different versions")
             }

@@ -2,9 +2,10 @@
 //! not proved; it is tested against the library.
 //!
 //! A table at the default settings (capacity 8,192, interval 10), made by [`SequenceTracker::new`] or [`SequenceTracker::from_bytes`] and by offers alone, and
-//! saved by [`SequenceTracker::to_bytes_strict`], cannot come back from bytes that nobody changed other than it was saved without an error. The same holds of a
-//! table of capacity 8,192 and any interval where [`SequenceTracker::from_bytes_with_interval`] names its interval: the bytes have none. slatedb's default
-//! interval is 60; a program that moves over from there names it.
+//! saved by [`SequenceTracker::to_bytes_strict`], cannot come back from bytes that nobody changed other than it was saved without an error, but for its
+//! totals, which are then 0: [`Totals`]. The same holds of a table of capacity 8,192 and any interval where
+//! [`SequenceTracker::from_bytes_with_interval`] names its interval: the bytes have none. slatedb's default interval is 60; a program that moves over from there
+//! names it.
 //!
 //! ```no_run
 //! use skutlaneb::{FindOption, Second, Seq, SequenceTracker, TrackedSeq};
@@ -21,7 +22,8 @@
 //! ```
 //!
 //! A refusal is an [`Error`], with its number in the list of refusals in docs/RULES.md, also where slatedb panics. A refused call leaves the table as it
-//! was; [`SequenceTracker::insert_all`] and [`SequenceTracker::extend_from`] keep what came of the pairs before the refused one.
+//! was, but that a pair which is refused with 16 or 17 is counted; [`SequenceTracker::insert_all`] and [`SequenceTracker::extend_from`] keep what came of the
+//! pairs before the refused one.
 //!
 //! [`image`] writes and reads images with no table, [`bits`] has the library's calls for bits, and [`sys`] the library's functions as they are.
 //!
@@ -43,5 +45,5 @@ mod values;
 pub use error::{Array, Error};
 pub use lists::{ListError, Tally};
 pub use times::NoSystemTime;
-pub use tracker::{FindOption, Inserted, Pairs, SequenceTracker};
+pub use tracker::{FindOption, Inserted, Pairs, SequenceTracker, Totals};
 pub use values::{Second, Seq, TrackedSeq};

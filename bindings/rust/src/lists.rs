@@ -3,7 +3,7 @@ use crate::{sys, Error};
 use std::fmt;
 
 /// How many of a list's pairs were recorded, and how many skipped, by the reason; [`Inserted`](crate::Inserted) says when each occurs. The three numbers add up to
-/// the list's length or, where a pair is refused, to its position: [`ListError::Stopped`].
+/// the list's length or, where a pair is refused, to its position: [`ListError::Stopped`]. [`Totals`](crate::Totals) count all offers to a table.
 #[derive(Clone, Copy, Debug, Default, PartialEq, Eq, Hash)]
 pub struct Tally {
     /// [`Inserted::Recorded`](crate::Inserted::Recorded).
@@ -33,7 +33,8 @@ impl From<sys::Tally> for Tally {
 /// a list to it has one error type; it says neither at which pair nor of which table it is, so it becomes [`ListError::Apart`], and no position is made up.
 #[derive(Clone, Copy, Debug, PartialEq, Eq, Hash)]
 pub enum ListError {
-    /// The pair at this position, counted from 0, is refused. Those before it were offered, and the table keeps what came of them; `before` counts them.
+    /// The pair at this position, counted from 0, is refused (16, 17, 31). Those before it were offered, and the table keeps what came of them; `before` counts
+    /// them. The table's totals count the refusal, too, but for 31.
     Stopped { at: u64, why: Error, before: Tally },
     /// The table itself is bad, and nothing was offered.
     Own(Error),

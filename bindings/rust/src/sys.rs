@@ -17,7 +17,20 @@ pub struct Answer {
     pub bit: u64,
 }
 
-/// A table's state, as calls return it and take it. `has_last` is 0 or 1: a state with any other number there is refused (14).
+/// How many offers a table has counted since it was made or restored, by what became of each: recorded; skipped, as the second was below the last recorded one
+/// (`went_back`), or not below it but less than the interval above it (`too_soon`); or refused with 16 or 17. Those refused with 14, 11, 12, 13 or 31 are not
+/// counted. An image does not carry them.
+#[repr(C)]
+#[derive(Clone, Copy, Debug, Default, PartialEq, Eq)]
+pub struct Totals {
+    pub recorded: u64,
+    pub went_back: u64,
+    pub too_soon: u64,
+    pub refused: u64,
+}
+
+/// A table's state, as calls return it and take it. `has_last` is 0 or 1: a state with any other number there is refused (14), and so is one whose totals add up
+/// to more than 2^64-1.
 ///
 /// A state that no call returned may be accepted: one pair (1, 10) and `last` 20, at the default settings, is a good table. An image has the pairs only, so
 /// that this one, saved strictly, comes back with `last` 10.
@@ -29,6 +42,7 @@ pub struct State {
     pub has_last: u32,
     pub interval_secs: u64,
     pub last: i64,
+    pub totals: Totals,
 }
 
 /// How many of the pairs offered were recorded, and how many skipped, by the reason: the second is below the last recorded one (`went_back`), or not below it
@@ -74,10 +88,10 @@ extern "C" {
     pub fn skut_read_bits(s: *const u8, n: usize, byte: usize, bit: u8, width: u8) -> Answer;
     pub fn skut_write_bits(buf: *mut u8, n: usize, byte: usize, bit: u8, value: u64, width: u8) -> Answer;
     /// Does nothing: the number in its name is that of the structs' layout, and goes up with each change of one.
-    pub fn skut_layout_3();
+    pub fn skut_layout_4();
 }
 
 /// Ties the crate to its library: with one whose structs are laid out otherwise a program does not link. (Seen with rustc 1.96; an older one may let the
 /// linker drop this.)
 #[used]
-static LAYOUT: unsafe extern "C" fn() = skut_layout_3;
+static LAYOUT: unsafe extern "C" fn() = skut_layout_4;

@@ -3,6 +3,7 @@ mod lookups;
 mod offers;
 mod pairs;
 mod stored;
+mod totals;
 
 use crate::calls;
 use crate::sys::State;
@@ -12,6 +13,7 @@ use std::fmt;
 pub use lookups::FindOption;
 pub use offers::Inserted;
 pub use pairs::Pairs;
+pub use totals::Totals;
 
 /// Which second a sequence number belongs to, and which sequence number a second.
 ///
@@ -23,7 +25,8 @@ pub use pairs::Pairs;
 /// A table of capacity 8,192 and any interval, made by [`SequenceTracker::new`], [`SequenceTracker::with_config`] or the reading of bytes and by offers alone, is
 /// refused by [`SequenceTracker::to_bytes_strict`], or its bytes, if nobody changes them, come back with the same pairs, settings and last recorded second,
 /// where [`SequenceTracker::from_bytes_with_interval`] names the table's own interval; at the default one, 10, [`SequenceTracker::from_bytes`] does that.
-/// Where one of these conditions fails, another table may come back without an error: the four calls of storage have an example each.
+/// Where one of these conditions fails, another table may come back without an error: the four calls of storage have an example each. The bytes never have the
+/// totals: [`Totals`].
 ///
 /// # What a call costs
 ///
@@ -33,9 +36,9 @@ pub use pairs::Pairs;
 ///
 /// # Clones and `==`
 ///
-/// A clone has the same pairs, settings and last recorded second, in arrays of its own, which take 16 bytes for each place of the capacity: 128 KiB at the
-/// default one. `==` compares the pairs and the settings, as in slatedb, and not the last recorded second. Two equal tables may thus answer the same offer
-/// differently, where the pair last recorded is not kept any more.
+/// A clone has the same pairs, settings, last recorded second and totals, in arrays of its own, which take 16 bytes for each place of the capacity: 128 KiB at
+/// the default one. `==` compares the pairs and the settings, as in slatedb, and neither the last recorded second nor the totals. Two equal tables may thus
+/// answer the same offer differently, where the pair last recorded is not kept any more.
 #[derive(Clone)]
 pub struct SequenceTracker {
     state: State,
@@ -102,7 +105,7 @@ impl Default for SequenceTracker {
     }
 }
 
-/// By the kept pairs and the settings, as in slatedb: the last recorded second does not count.
+/// By the kept pairs and the settings, as in slatedb: neither the last recorded second nor the totals matter.
 impl PartialEq for SequenceTracker {
     fn eq(&self, other: &SequenceTracker) -> bool {
         self.pairs().eq(other.pairs()) && self.capacity() == other.capacity() && self.interval_secs() == other.interval_secs()
@@ -118,6 +121,7 @@ impl fmt::Debug for SequenceTracker {
             .field("capacity", &self.capacity())
             .field("interval_secs", &self.interval_secs())
             .field("last_recorded", &self.last_recorded().map(i64::from))
+            .field("totals", &self.totals())
             .finish()
     }
 }

@@ -87,5 +87,6 @@ pub fn of_table(why: tracker::Refusal) -> Answer
         tracker::Refusal::Settings => answer(15, 0, 0, 0),
         tracker::Refusal::OfferedOutside => answer(16, 0, 0, 0),
         tracker::Refusal::OfferedDrops => answer(17, 0, 0, 0),
+        tracker::Refusal::TotalsFull => answer(31, 0, 0, 0),
     }
 }

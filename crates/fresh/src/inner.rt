@@ -12,10 +12,12 @@ pub fn fresh(
 ) -> SequenceTracker
     ensures { λ r. ⌜ r ≡ freshTable capacity «interval_secs» count «last_recorded_ts» ⌝ }
 {
+    let none = totals::inner::no_totals();
     SequenceTracker {
         count: count,
         capacity: capacity,
         interval_secs: interval_secs,
         last_recorded_ts: last_recorded_ts,
+        totals: none,
     }
 }

@@ -13,11 +13,11 @@ use Rattle.tracker.specs.Table.{checkOf}
 use Rattle.tracker.specs.declared.TrackedSeq.{TrackedSeq}
 use Rattle.tracker.specs.declared.SequenceTracker.{SequenceTracker}
 use Rattle.offers.specs.Whole.{Table, whole, checkIn, Left, leaving, Leaves}
-use Rattle.offers.specs.Offer.{Outcome, recorded, wentBack, tooSoon, offeredTo}
+use Rattle.offers.specs.Offer.{Outcome, recorded, wentBack, tooSoon, pairRefused, offeredTo}
 use Rattle.offers.proofs.Preserved.{stays-good}
 use Rattle.tallies.specs.Tally.{noneYet, counted, total}
 use Rattle.tallies.specs.declared.Tally.{Tally}
-use Rattle.log.specs.Log.{Log, done, stopped, unless, runOf, logOf}
+use Rattle.log.specs.Log.{Log, done, stopped, unless, unlessStopped, runOf, logOf}
 use Rattle.log.specs.Pairs.{pairOf}
 use Rattle.log.specs.Inner.{tells, stoppedAt, toldIn, toldProgress, leftBy, standing, endOf, goingOf, Begins, Steps}
 use Rattle.log.specs.declared.inner.Phase.{Phase}
@@ -53,15 +53,21 @@ pub from-one : (w : Table) (n : Tally) (i : ℕ) (r : TrackedSeq) (rs : List Tra
 unfolding runOf
 from-one w n i r rs = go (tells w r)
   where
-    go : (o : Told Outcome) → let w′ = offeredTo w (r .seq) (r .ts) o in unless o (stoppedAt w n i) (runOf w′ (counted o n) (i + 1) rs) ≡ onward (unless o (stoppedAt w n i) (runOf w′ (counted o n) (i + 1) [])) (i + 1) rs
-    go (gave _) = refl
+    go : (o : Told Outcome) → let w′ = offeredTo w (r .seq) (r .ts) o in unlessStopped o (stoppedAt w′ n i) (runOf w′ (counted o n) (i + 1) rs) ≡ onward (unlessStopped o (stoppedAt w′ n i) (runOf w′ (counted o n) (i + 1) [])) (i + 1) rs
+    go (gave (recorded t)) = refl
+    go (gave (wentBack t)) = refl
+    go (gave (tooSoon t)) = refl
+    go (gave (pairRefused what t)) = refl
     go (refused what) = refl
 
--- an offer that is not refused counts once
-pub one-more : (o : Outcome) (n : Tally) → total (counted (gave o) n) ≡ total n + 1
-one-more (recorded t) n = omega arith
-one-more wentBack n = omega arith
-one-more tooSoon n = omega arith
+-- where the log goes on after an offer, it was not refused, and counts once
+pub one-more : {B : Type 0} (P : B → Type 0) (o : Told Outcome) (n : Tally) (stop : List ℕ → B) (next : B) → ((what : List ℕ) → P (stop what) → ⊥) → P (unlessStopped o stop next)
+    → P next × (total (counted o n) ≡ total n + 1)
+one-more P (gave (recorded t)) n stop next never h = (h, omega arith)
+one-more P (gave (wentBack t)) n stop next never h = (h, omega arith)
+one-more P (gave (tooSoon t)) n stop next never h = (h, omega arith)
+one-more P (gave (pairRefused what t)) n stop next never h = absurd (never what h)
+one-more P (refused what) n stop next never h = absurd (never what h)
 
 -- while a log goes on its table is good, each record before i was counted, and the end is the list's; else the end is 0
 abbrev pub Alive : Phase → Progress → List ℕ → List ℤ → ℕ → ℕ → Type 0
@@ -171,12 +177,14 @@ module _ {all : Leaving} {rs : List TrackedSeq} {p : Progress} {seqs : List ℕ}
 
         stepped : (o : Told Outcome) → tells (standing p seqs secs) r ≡ o
             → leaving (gave (done (t .table) (t .tally))) (standing t seqs′ secs′)
-            ≡ unless o (stoppedAt (standing p seqs secs) (p .tally) i) (let w = offeredTo (standing p seqs secs) (r .seq) (r .ts) o in leaving (gave (done (w .state) (counted o (p .tally)))) w)
+            ≡ (let w = offeredTo (standing p seqs secs) (r .seq) (r .ts) o in unlessStopped o (stoppedAt w (p .tally) i) (leaving (gave (done (w .state) (counted o (p .tally)))) w))
             → (checkOf (t .table) seqs′ secs′ ≡ gave tt) × (total (t .tally) ≡ i + 1)
-        stepped (gave o) f e =
-            let s = stands t seqs′ secs′ (offeredTo (standing p seqs secs) (r .seq) (r .ts) (gave o)) (counted (gave o) (p .tally)) e in
-            (rw (s .table, s .seqs-are, s .secs-are) (stays-good (p .table) seqs secs (r .seq) (r .ts) (gave o) f (live .good)), ap total (s .tally) ∙ one-more o (p .tally) ∙ ap (λ (k : ℕ). k + 1) (live .total-is))
-        stepped (refused what) f e = not-stopped _ _ _ _ _ (ap (λ (l : Leaving). l .answer) e)
+        stepped o f e =
+            let w = offeredTo (standing p seqs secs) (r .seq) (r .ts) o in
+            let on = one-more (λ (l : Leaving). leaving (gave (done (t .table) (t .tally))) (standing t seqs′ secs′) ≡ l) o (p .tally) (stoppedAt w (p .tally) i) (leaving (gave (done (w .state) (counted o (p .tally)))) w)
+            (λ what h. not-stopped _ _ _ _ _ (ap (λ (l : Leaving). l .answer) h)) e in
+            let s = stands t seqs′ secs′ w (counted o (p .tally)) (on .0) in
+            (rw (s .table, s .seqs-are, s .secs-are) (stays-good (p .table) seqs secs (r .seq) (r .ts) o f (live .good)), ap total (s .tally) ∙ on .1 ∙ ap (λ (k : ℕ). k + 1) (live .total-is))
 
         go : (f : Phase) → leaving (toldIn f t) (standing t seqs′ secs′) ≡ runOf (standing p seqs secs) (p .tally) i (r ∷ []) → t .end ≡ endOf f (p .end) → Alive f t seqs′ secs′ (i + 1) (length rs)
         go Going e n = let a = stepped (tells (standing p seqs secs) r) refl e in (a .0, a .1, n ∙ live .ends)

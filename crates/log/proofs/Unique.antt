@@ -9,7 +9,7 @@ use lib.ListN.{length, getD}
 use Rattle.told.specs.Told.{Told, gave, refused}
 use Rattle.tracker.specs.Refusal.{told}
 use Rattle.tracker.specs.declared.Refusal.{Refusal}
-use Rattle.tracker.specs.declared.Refusal.the-variants.{Disagrees, SequenceDrops, SecondDrops, SecondOutside, Settings, OfferedOutside, OfferedDrops}
+use Rattle.tracker.specs.declared.Refusal.the-variants.{Disagrees, SequenceDrops, SecondDrops, SecondOutside, Settings, OfferedOutside, OfferedDrops, TotalsFull}
 use Rattle.tracker.proofs.Unique.{undone, refusalOf}
 use Rattle.offers.specs.Whole.{Left, Leaves}
 use Rattle.offers.proofs.Unique.{one-left}
@@ -30,6 +30,7 @@ last-back Disagrees n = (refl, refl)
 last-back Settings n = (refl, refl)
 last-back OfferedOutside n = (refl, refl)
 last-back OfferedDrops n = (refl, refl)
+last-back TotalsFull n = (refl, refl)
 
 -- what was refused before the first record: the lists by 18, one table by its refusal alone, one of two by one number more
 refusedOf : List ℕ → Logged
@@ -56,6 +57,7 @@ one-log = undone toldLog loggedOf (λ a. back a)
     alone Settings = refl
     alone OfferedOutside = refl
     alone OfferedDrops = refl
+    alone TotalsFull = refl
 
     of-two : (which : ℕ) (why : Refusal) → refusedOf (told why ++ (which ∷ [])) ≡ cond (eqb which 0) (OwnRefused why) (OtherRefused why)
     of-two which (SequenceDrops i) = refl
@@ -65,6 +67,7 @@ one-log = undone toldLog loggedOf (λ a. back a)
     of-two which Settings = refl
     of-two which OfferedOutside = refl
     of-two which OfferedDrops = refl
+    of-two which TotalsFull = refl
 
     back : (a : Logged) → loggedOf (toldLog a) ≡ a
     back (Done table n) = refl

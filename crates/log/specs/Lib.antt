@@ -1,4 +1,5 @@
 pub mod Log
 pub mod Pairs
+pub mod Rest
 pub mod Laws
 pub mod Inner

@@ -6,7 +6,7 @@ use Rattle.tracker.specs.Refusal.{told}
 use Rattle.tracker.specs.declared.TrackedSeq.{TrackedSeq}
 use Rattle.tracker.specs.declared.SequenceTracker.{SequenceTracker}
 use Rattle.offers.specs.Whole.{Table, checkIn, Left, leaving}
-use Rattle.offers.specs.Offer.{offerTo, offeredTo}
+use Rattle.offers.specs.Offer.{Outcome, recorded, wentBack, tooSoon, pairRefused, offerTo, offeredTo}
 use Rattle.tallies.specs.Tally.{noneYet, counted}
 use Rattle.tallies.specs.declared.Tally.{Tally}
 use Rattle.log.specs.declared.Logged.{Logged}
@@ -33,13 +33,22 @@ abbrev pub unless : {A B : Type 0} → Told A → (List ℕ → B) → B → B
 unless (gave _) stop next = next
 unless (refused what) stop next = stop what
 
--- the records from position i on, in order, up to the first refusal
+-- the same of an offer, whether its refusal was counted (16, 17) or not (31)
+abbrev pub unlessStopped : {B : Type 0} → Told Outcome → (List ℕ → B) → B → B
+unlessStopped (gave (recorded t)) stop next = next
+unlessStopped (gave (wentBack t)) stop next = next
+unlessStopped (gave (tooSoon t)) stop next = next
+unlessStopped (gave (pairRefused what t)) stop next = stop what
+unlessStopped (refused what) stop next = stop what
+
+-- the records from position i on, in order, up to the first refusal; the state is the one that the last offer left, the refused one too
 unfoldable pub runOf : Table → Tally → ℕ → List TrackedSeq → Left (Told Log)
 runOf w n i [] = leaving (gave (done (w .state) n)) w
 runOf w n i (r ∷ rs) =
     let told = offerTo w (r .seq) (r .ts) in
-    unless told (λ what. leaving (gave (stopped (what ++ (i ∷ [])) (w .state) n)) w)
-    (runOf (offeredTo w (r .seq) (r .ts) told) (counted told n) (i + 1) rs)
+    let after = offeredTo w (r .seq) (r .ts) told in
+    unlessStopped told (λ what. leaving (gave (stopped (what ++ (i ∷ [])) (after .state) n)) after)
+    (runOf after (counted told n) (i + 1) rs)
 
 -- a log of offers to a table: a bad one refuses before the first record, and is as before
 abbrev pub logOf : Table → List TrackedSeq → Left (Told Log)

@@ -61,15 +61,16 @@ pub fn step(seqs: &mut [u64], secs: &mut [i64], p: Progress, pair: TrackedSeq) -
     requires { ⌜ (checkOf (p .table) (now seqs) (now secs) ≡ gave tt) × (total (p .tally) + 1 < 2 ^ 64) ⌝ }
     ensures { λ r. ⌜ Steps p (now (seqs .entry)) (now (secs .entry)) pair r (now (seqs .exit)) (now (secs .exit)) ⌝ }
 {
-    let table = p.table;
+    let own = p.table;
     let end = p.end;
-    let offered = offer::offer_good(table, seqs, secs, pair.seq, pair.ts);
+    let offered = offer::offer_good(own, seqs, secs, pair.seq, pair.ts);
     let tally = counted(p.tally, offered);
     match offered {
-        Offered::Recorded(grown) => going(grown, tally, end),
-        Offered::WentBack => going(table, tally, end),
-        Offered::TooSoon => going(table, tally, end),
-        Offered::Refused(why) => stopped(table, tally, why),
+        Offered::Recorded(table) => going(table, tally, end),
+        Offered::WentBack(table) => going(table, tally, end),
+        Offered::TooSoon(table) => going(table, tally, end),
+        Offered::PairRefused { why, table } => stopped(table, tally, why),
+        Offered::Refused(why) => stopped(own, tally, why),
     }
 }
 

@@ -1,4 +1,5 @@
 -- Laws that belong to no one function.
+pub mod Counted
 pub mod Rise
 pub mod Preserved
 pub mod Alike

@@ -1,4 +1,4 @@
--- A recorded pair leaves a good table good, and any other outcome leaves it as it was.
+-- An offer leaves a good table good: with a pair recorded, and with any other outcome, which changes nothing of it but a total.
 use mathlib.Core.Path.{_≡_, refl, sym, ap, _∙_}
 use mathlib.Core.Logic.{⊎-elim}
 use mathlib.Core.Bool.{Bool, true, false, cond}
@@ -12,10 +12,14 @@ use lib.IntN.{ℤ, pos}
 use lib.ListN.{length, getD}
 use lib.Seq.{take-at}
 use lib.Signed.{ltZ}
-use Rattle.told.specs.Told.{Told, gave, refused, ifGood}
+use Rattle.told.specs.Told.{Told, gave, refused}
 use Rattle.told.specs.Over.{over}
 use Rattle.limits.specs.Domain.{outside}
 use Rattle.limits.specs.Settings.{roomOf}
+use Rattle.totals.specs.Totals.{full, oneMore}
+use Rattle.totals.specs.declared.Fate.{Fate}
+use Rattle.totals.specs.declared.Fate.the-variants as fate
+use Rattle.totals.proofs.Sum.{still-fit}
 use Rattle.tracker.specs.Table.{kept, checkOf}
 use Rattle.tracker.specs.Inner.{lastMisplaced, lastBelow}
 use Rattle.order.specs.Order.{secOutside}
@@ -24,15 +28,17 @@ use Rattle.tracker.specs.declared.Second.{Second}
 use Rattle.tracker.specs.declared.SequenceTracker.{SequenceTracker}
 use Rattle.tracker.specs.declared.LastRecorded.{LastRecorded}
 use Rattle.tracker.specs.declared.LastRecorded.the-variants.{Never, At}
-use Rattle.order.proofs.Bools.{below-or, not-given, passed}
+use Rattle.order.proofs.Bools.{below-or}
 use Rattle.tracker.proofs.Good.{Fine, fine, fine-again, room-is, count-seqs, count-secs}
+use Rattle.tracker.proofs.Rest.{good-totals}
 use Rattle.order.proofs.Order.{nat-order, int-order, further}
 use Rattle.offers.specs.Whole.{whole, checkIn}
 use Rattle.skipping.specs.Reasons.{goesBack, comesTooSoon}
 use Rattle.keeping.specs.Keep.{keptWith}
 use Rattle.keeping.specs.Inner.{countWith}
-use Rattle.offers.specs.Offer.{Outcome, recorded, wentBack, tooSoon, lowSeq, stateWith, offerTo, offeredTo}
+use Rattle.offers.specs.Offer.{Outcome, recorded, wentBack, tooSoon, pairRefused, lowSeq, counting, stateWith, offerTo, offeredTo}
 use Rattle.keeping.proofs.Thinned.{appended-old, appended-new, thinned-length}
+use Rattle.offers.proofs.Counted.{reached, counts-so}
 use Rattle.offers.proofs.Rise.{over-length, selected, kept-sorted, kept-below}
 
 -- the room takes what is kept, and something is kept
@@ -55,34 +61,24 @@ module _ (table : SequenceTracker) (seqs : List ℕ) (secs : List ℤ) (seq : Se
   -- what an offer that is recorded has passed
   pub record Taken (t : SequenceTracker) : Type 0 where
     pub good : checkOf table seqs secs ≡ gave tt
+    pub unfilled : full (table .totals) ≡ false
     pub inside : outside (ts .0) ≡ false
     pub onward : goesBack (table .«last_recorded_ts») (ts .0) ≡ false
     pub rising : lowSeq seqs (table .count) (seq .0) ≡ false
     pub state : stateWith table (length (keptWith table seqs (seq .0))) ts ≡ t
 
   pub taken : (t : SequenceTracker) → offerTo (whole table seqs secs) seq ts ≡ gave (recorded t) → Taken t
-  taken t h = go (checkOf table seqs secs) refl h
+  taken t h =
+      let r = reached (whole table seqs secs) seq ts (recorded t) h in
+      let h16 = past (outside (ts .0)) (pairRefused (16 ∷ []) (counting fate.Refused table)) _ (λ e. let z : _≡_ {A = ℕ} 0 1 = cc e in omega arith) (r .outcome) in
+      let back = past (goesBack (table .«last_recorded_ts») (ts .0)) (wentBack (counting fate.WentBack table)) _ (λ e. let z : _≡_ {A = ℕ} 0 1 = cc e in omega arith) (h16 .1) in
+      let soon = past (comesTooSoon (table .«last_recorded_ts») (table .«interval_secs») (ts .0)) (tooSoon (counting fate.TooSoon table)) _ (λ e. let z : _≡_ {A = ℕ} 0 1 = cc e in omega arith) (back .1) in
+      let h17 = past (lowSeq seqs (table .count) (seq .0)) (pairRefused (17 ∷ []) (counting fate.Refused table)) _ (λ e. let z : _≡_ {A = ℕ} 0 1 = cc e in omega arith) (soon .1) in
+      record { good = r .good; unfilled = r .room; inside = h16 .0; onward = back .0; rising = h17 .0; state = cc (h17 .1) }
     where
-      past-skip : (b : Bool) (o : Outcome) (next : Told Outcome) → (gave o ≡ gave (recorded t) → ⊥) → cond b (gave o) next ≡ gave (recorded t) → (b ≡ false) × (next ≡ gave (recorded t))
-      past-skip true o next differ e = absurd (differ e)
-      past-skip false o next differ e = (refl, e)
-
-      go : (checked : Told (Unit {0})) → checkOf table seqs secs ≡ checked
-          → ifGood checked
-          (cond (outside (ts .0)) (refused (16 ∷ []))
-          (cond (goesBack (table .«last_recorded_ts») (ts .0)) (gave wentBack)
-          (cond (comesTooSoon (table .«last_recorded_ts») (table .«interval_secs») (ts .0)) (gave tooSoon)
-          (cond (lowSeq seqs (table .count) (seq .0)) (refused (17 ∷ []))
-          (gave (recorded (stateWith table (length (keptWith table seqs (seq .0))) ts)))))))
-          ≡ gave (recorded t)
-          → Taken t
-      go (refused what) e h = absurd (not-given what (recorded t) h)
-      go (gave tt) e h =
-          let h16 = passed (outside (ts .0)) (16 ∷ []) _ (recorded t) h in
-          let back = past-skip (goesBack (table .«last_recorded_ts») (ts .0)) wentBack _ (λ e. let z : _≡_ {A = ℕ} 0 1 = cc e in omega arith) (h16 .1) in
-          let soon = past-skip (comesTooSoon (table .«last_recorded_ts») (table .«interval_secs») (ts .0)) tooSoon _ (λ e. let z : _≡_ {A = ℕ} 0 1 = cc e in omega arith) (back .1) in
-          let h17 = passed (lowSeq seqs (table .count) (seq .0)) (17 ∷ []) _ (recorded t) (soon .1) in
-          record { good = e; inside = h16 .0; onward = back .0; rising = h17 .0; state = cc (h17 .1) }
+      past : (b : Bool) (o next : Outcome) → (o ≡ recorded t → ⊥) → cond b o next ≡ recorded t → (b ≡ false) × (next ≡ recorded t)
+      past true o next differ e = absurd (differ e)
+      past false o next differ e = (refl, e)
 
   -- what each array holds of the pair, and how many
   module _ (t : SequenceTracker) (k : Taken t) where
@@ -143,6 +139,7 @@ module _ (table : SequenceTracker) (seqs : List ℕ) (secs : List ℤ) (seq : Se
         last-placed = ne-eqb m 0 (λ e. omega (arith, room .1));
         last-inside = k .inside;
         last-above = kept-below ltZ int-order (pos 0) (table .count) secs (ts .0) (table .capacity) fit-secs (f .pairs .secs-rise) not-above (m - 1) (omega (arith, room .1));
+        totals-fit = still-fit fate.Recorded (table .totals) (k .unfilled);
       };
       pairs = record {
         seqs-rise = kept-sorted ltb nat-order 0 (table .count) seqs (seq .0) (table .capacity) fit-seqs (f .pairs .seqs-rise) (after-low seqs (table .count) (seq .0) (k .rising));
@@ -176,18 +173,26 @@ module _ (table : SequenceTracker) (seqs : List ℕ) (secs : List ℤ) (seq : Se
   pub recorded-count : (t : SequenceTracker) → offerTo (whole table seqs secs) seq ts ≡ gave (recorded t) → t .count ≡ countWith (table .capacity) (table .count)
   recorded-count t h = let k = taken t h in sym (count-is t k) ∙ seqs-kept t k
 
+  -- an offer that changes nothing but a total leaves a good table good
+  counted-good : (o : Outcome) (fate : Fate) (t : SequenceTracker) → offerTo (whole table seqs secs) seq ts ≡ gave o → t ≡ counting fate table → checkOf t seqs secs ≡ gave tt
+  counted-good o fate t h e =
+      let r = reached (whole table seqs secs) seq ts o h in
+      rw e (good-totals table (oneMore fate (table .totals)) seqs secs (still-fit fate (table .totals) (r .room)) (r .good))
+
   -- whatever an offer to a good table tells, the table is good afterwards
   pub stays-good : (o : Told Outcome) → offerTo (whole table seqs secs) seq ts ≡ o → checkOf table seqs secs ≡ gave tt
       → checkIn (offeredTo (whole table seqs secs) seq ts o) ≡ gave tt
   stays-good (gave (recorded t)) h g = recorded-good t h
-  stays-good (gave wentBack) h g = g
-  stays-good (gave tooSoon) h g = g
+  stays-good (gave (wentBack t)) h g = counted-good (wentBack t) fate.WentBack t h (counts-so (whole table seqs secs) seq ts _ h)
+  stays-good (gave (tooSoon t)) h g = counted-good (tooSoon t) fate.TooSoon t h (counts-so (whole table seqs secs) seq ts _ h)
+  stays-good (gave (pairRefused what t)) h g = counted-good (pairRefused what t) fate.Refused t h (counts-so (whole table seqs secs) seq ts _ h .0)
   stays-good (refused what) h g = g
 
   -- and the arrays have kept their lengths
   pub same-lengths : (o : Told Outcome) → offerTo (whole table seqs secs) seq ts ≡ o
       → (length (offeredTo (whole table seqs secs) seq ts o .seqs) ≡ length seqs) × (length (offeredTo (whole table seqs secs) seq ts o .secs) ≡ length secs)
   same-lengths (gave (recorded t)) h = (seqs-length t (taken t h), secs-length t (taken t h))
-  same-lengths (gave wentBack) h = (refl, refl)
-  same-lengths (gave tooSoon) h = (refl, refl)
+  same-lengths (gave (wentBack t)) h = (refl, refl)
+  same-lengths (gave (tooSoon t)) h = (refl, refl)
+  same-lengths (gave (pairRefused what t)) h = (refl, refl)
   same-lengths (refused what) h = (refl, refl)

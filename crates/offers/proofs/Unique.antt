@@ -8,14 +8,15 @@ use Rattle.tracker.specs.declared.Seq.{Seq}
 use Rattle.tracker.specs.declared.Second.{Second}
 use Rattle.tracker.proofs.Unique.{undone, refusalOf, refusal-back}
 use Rattle.offers.specs.Whole.{Table, Left, Leaves}
-use Rattle.offers.specs.Offer.{Outcome, recorded, wentBack, tooSoon, toldOffer, offerTo, offeredTo, offering}
+use Rattle.offers.specs.Offer.{Outcome, recorded, wentBack, tooSoon, pairRefused, toldOffer, offerTo, offeredTo, offering}
 use Rattle.offers.specs.declared.Offered.{Offered}
-use Rattle.offers.specs.declared.Offered.the-variants.{Recorded, WentBack, TooSoon, Refused}
+use Rattle.offers.specs.declared.Offered.the-variants.{Recorded, WentBack, TooSoon, PairRefused, Refused}
 
 offeredOf : Told Outcome → Offered
 offeredOf (gave (recorded t)) = Recorded t
-offeredOf (gave wentBack) = WentBack
-offeredOf (gave tooSoon) = TooSoon
+offeredOf (gave (wentBack t)) = WentBack t
+offeredOf (gave (tooSoon t)) = TooSoon t
+offeredOf (gave (pairRefused l t)) = PairRefused (refusalOf l) t
 offeredOf (refused l) = Refused (refusalOf l)
 
 -- the answer can be had back from what is told
@@ -25,8 +26,9 @@ one-answer = undone toldOffer offeredOf (λ o. back o)
   where
     back : (o : Offered) → offeredOf (toldOffer o) ≡ o
     back (Recorded t) = refl
-    back WentBack = refl
-    back TooSoon = refl
+    back (WentBack t) = refl
+    back (TooSoon t) = refl
+    back (PairRefused r t) = ap (λ q. PairRefused q t) (refusal-back r)
     back (Refused r) = ap Refused (refusal-back r)
 
 -- no second answer and no second arrays fit what a call leaves, where the answer is had back from what it tells

@@ -1,3 +1,5 @@
 pub mod Whole
 pub mod Offer
+pub mod Rest
+pub mod Counted
 pub mod Skipped

@@ -9,6 +9,7 @@ use crate::steps;
 use keeping::inner as keep;
 use limits::inner as checks;
 use skipping::inner as skip;
+use totals::Fate;
 use tracker::Refusal;
 use tracker::Second;
 use tracker::Seq;
@@ -29,19 +30,22 @@ pub fn offer_good(
 {
     let q = seq.0;
     let s = ts.0;
+    if totals::inner::full(table.totals) {
+        return Offered::Refused(Refusal::TotalsFull);
+    }
     if checks::out_of_domain(s) {
-        return Offered::Refused(Refusal::OfferedOutside);
+        return steps::pair_refused(table, Refusal::OfferedOutside);
     }
     let last = table.last_recorded_ts;
     if skip::skips(last, table.interval_secs, s) {
         if skip::went_back(last, s) {
-            return Offered::WentBack;
+            return Offered::WentBack(steps::counted(table, Fate::WentBack));
         }
-        return Offered::TooSoon;
+        return Offered::TooSoon(steps::counted(table, Fate::TooSoon));
     }
     let n = table.count;
     if steps::low_seq(seqs, n, q) {
-        return Offered::Refused(Refusal::OfferedDrops);
+        return steps::pair_refused(table, Refusal::OfferedDrops);
     }
     let capacity = table.capacity as usize;
     let count = keep::seq_keep(seqs, n, capacity, q);

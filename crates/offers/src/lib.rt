@@ -1,4 +1,4 @@
-// One offer to a table: a pair is recorded, skipped, with the reason, or refused.
+// One offer to a table: a pair is recorded, skipped, with the reason, or refused, and the offer is counted.
 ghost use Rattle.offers.specs.Whole.{whole, Leaves};
 ghost use Rattle.offers.specs.Offer.{toldOffer, offering};
 use tracker::Checked;
@@ -11,10 +11,16 @@ use tracker::check;
 pub mod inner;
 mod steps;
 
+// Where the offer is counted, the state after it: a pair that is skipped, or refused for itself (16, 17), changes nothing of it but a
+// total. `Refused` is for the rest: the table is bad, or its totals are full, and nothing is counted.
 pub enum Offered {
     Recorded(SequenceTracker),
-    WentBack,
-    TooSoon,
+    WentBack(SequenceTracker),
+    TooSoon(SequenceTracker),
+    PairRefused {
+        why: Refusal,
+        table: SequenceTracker,
+    },
     Refused(Refusal),
 }
 

@@ -1,9 +1,17 @@
-// The test for 17, and the state that an offer leaves.
+// The test for 17, and the states that an offer leaves.
 ghost use mathlib.Core.Path.{_≡_};
-ghost use Prim.Native.Nat.{_≤_};
+ghost use Prim.Native.Nat.{_≤_, _<_};
 ghost use lib.ListN.{length};
-ghost use Rattle.offers.specs.Offer.{lowSeq, stateWith};
+ghost use Rattle.totals.specs.Totals.{sumOf, most};
+ghost use Rattle.totals.specs.declared.Fate.the-variants as fate;
+ghost use Rattle.tracker.specs.Refusal.{told};
+ghost use Rattle.told.specs.Told.{gave};
+ghost use Rattle.offers.specs.Offer.{pairRefused, toldOffer, lowSeq, counting, stateWith};
+use crate::Offered;
+use totals::Fate;
+use totals::inner::one_more;
 use tracker::LastRecorded;
+use tracker::Refusal;
 use tracker::Second;
 use tracker::SequenceTracker;
 
@@ -18,15 +26,46 @@ pub(crate) fn low_seq(seqs: &[u64], n: usize, q: u64) -> bool
     q < seqs[n - 1]
 }
 
+// The state after an offer that changes nothing but a total.
+pub(crate) fn counted(table: SequenceTracker, fate: Fate) -> SequenceTracker
+    requires { ⌜ sumOf (table .totals) < most ⌝ }
+    ensures { λ r. ⌜ r ≡ counting fate table ⌝ }
+{
+    let last = table.last_recorded_ts;
+    let totals = one_more(table.totals, fate);
+    SequenceTracker {
+        count: table.count,
+        capacity: table.capacity,
+        interval_secs: table.interval_secs,
+        last_recorded_ts: last,
+        totals: totals,
+    }
+}
+
 // The one place where the state after a recorded pair is built.
 pub(crate) fn with_pair(table: SequenceTracker, count: usize, ts: Second) -> SequenceTracker
+    requires { ⌜ sumOf (table .totals) < most ⌝ }
     ensures { λ r. ⌜ r ≡ stateWith table count ts ⌝ }
 {
     let at = LastRecorded::At(ts);
+    let totals = one_more(table.totals, Fate::Recorded);
     SequenceTracker {
         count: count,
         capacity: table.capacity,
         interval_secs: table.interval_secs,
         last_recorded_ts: at,
+        totals: totals,
+    }
+}
+
+// A pair that is refused for itself: the refusal is counted, and nothing else changes.
+pub(crate) fn pair_refused(table: SequenceTracker, why: Refusal) -> Offered
+    requires { ⌜ sumOf (table .totals) < most ⌝ }
+    ensures { λ r. ⌜ toldOffer r ≡ gave (pairRefused (told why) (counting fate.Refused table)) ⌝ }
+{
+    let after = counted(table, Fate::Refused);
+    Offered::PairRefused {
+        why: why,
+        table: after,
     }
 }

@@ -1,4 +1,4 @@
--- No second outcome fits: answers of which the same is told are the same. The table's refusals have the numbers 11 to 17, the
+-- No second outcome fits: answers of which the same is told are the same. The table's refusals have the numbers from 11 on, the
 -- reader's those up to 10. Assumes nothing.
 use Prim.Native.Nat.{ℕ, _≤_}
 use mathlib.Core.Path.{_≡_, sym, ap, _∙_}
@@ -36,9 +36,9 @@ restore-told (rv.Table t) (rv.Refused r) h = given-not-refused h
 restore-told (rv.Table t) (rv.NotDecoded r) h = given-not-refused h
 restore-told (rv.Refused r) (rv.Table u) h = given-not-refused (sym h)
 restore-told (rv.Refused r) (rv.Refused q) h = ap rv.Refused (table-told r q (same-list h))
-restore-told (rv.Refused r) (rv.NotDecoded q) h = apart (reader.told q) (told r) (omega (arith, table-number r .0, reader-number q)) (sym h)
+restore-told (rv.Refused r) (rv.NotDecoded q) h = apart (reader.told q) (told r) (λ e. omega (arith, e, table-number r .0, reader-number q)) (sym h)
 restore-told (rv.NotDecoded r) (rv.Table u) h = given-not-refused (sym h)
-restore-told (rv.NotDecoded r) (rv.Refused q) h = apart (reader.told r) (told q) (omega (arith, table-number q .0, reader-number r)) h
+restore-told (rv.NotDecoded r) (rv.Refused q) h = apart (reader.told r) (told q) (λ e. omega (arith, e, table-number q .0, reader-number r)) h
 restore-told (rv.NotDecoded r) (rv.NotDecoded q) h = ap rv.NotDecoded (one-refusal r q (same-list h))
 
 pub one-restore : (interval : ℕ) (bytes seqs : List ℕ) (secs : List ℤ) (a b : Restored) (x x′ : List ℕ) (y y′ : List ℤ)

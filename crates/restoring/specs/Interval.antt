@@ -10,7 +10,7 @@ use Rattle.fresh.specs.Fresh.{defaultCapacity, freshTable}
 use Rattle.tracker.specs.declared.SequenceTracker.{SequenceTracker}
 use Rattle.restoring.specs.Restore.{restoreAt, restoreOf}
 
--- the state with another interval
+-- the state with another interval, and no offer counted
 abbrev pub withInterval : ℕ → SequenceTracker → SequenceTracker
 withInterval interval t = freshTable (t .capacity) interval (t .count) (t .«last_recorded_ts»)
 

@@ -1,7 +1,8 @@
--- No second outcome fits: answers of which the same is told are the same. The table's refusals have the numbers 11 to 17, the
--- encoder's those from 18 on. Assumes nothing.
-use Prim.Native.Nat.{ℕ, _≤_, _<_}
+-- No second outcome fits: answers of which the same is told are the same. The table's refusals have the numbers 11 to 17 and 31,
+-- the encoder's those from 18 to 21. Assumes nothing.
+use Prim.Native.Nat.{ℕ, _≤_}
 use mathlib.Core.Path.{_≡_, sym, ap, _∙_}
+use mathlib.Core.Logic.{⊎-elim}
 use mathlib.Core.List.{List}
 use native.Mathlib.Omega.{arith}
 use lib.IntN.{ℤ}
@@ -9,6 +10,7 @@ use Rattle.told.specs.Told.{Told, refused}
 use Rattle.told.specs.Over.{filled}
 use Rattle.told.proofs.Unique.{given-not-refused, same-list, same-gift}
 use Rattle.tracker.specs.Refusal.{told}
+use Rattle.tracker.specs.declared.Refusal.{Refusal}
 use Rattle.tracker.specs.declared.SequenceTracker.{SequenceTracker}
 use Rattle.tracker.proofs.Unique.{number, table-number, apart, table-told}
 use Rattle.encoder.specs.Encode as encoder
@@ -19,11 +21,15 @@ use Rattle.saving.specs.Save.{toldSave, keptImage, Saves}
 use Rattle.saving.specs.declared.Saved.{Saved}
 use Rattle.saving.specs.declared.Saved.the-variants as sv
 
-encoder-number : (r : enc.Refusal) → 18 ≤ number (encoder.told r)
-encoder-number ev.LengthsDiffer = omega arith
-encoder-number ev.TooMany = omega arith
-encoder-number (ev.Wide a i) = omega arith
-encoder-number (ev.Room n) = omega arith
+encoder-number : (r : enc.Refusal) → (18 ≤ number (encoder.told r)) × (number (encoder.told r) ≤ 21)
+encoder-number ev.LengthsDiffer = (omega arith, omega arith)
+encoder-number ev.TooMany = (omega arith, omega arith)
+encoder-number (ev.Wide a i) = (omega arith, omega arith)
+encoder-number (ev.Room n) = (omega arith, omega arith)
+
+two-layers : (r : Refusal) (q : enc.Refusal) → number (told r) ≡ number (encoder.told q) → ⊥
+two-layers r q e =
+    ⊎-elim (λ (h : number (told r) ≤ 17). omega (arith, e, h, encoder-number q .0)) (λ (h : number (told r) ≡ 31). omega (arith, e, h, encoder-number q .1)) (table-number r .1)
 
 save-told : (a b : Saved) → toldSave a ≡ toldSave b → a ≡ b
 save-told (sv.Written n) (sv.Written m) h = ap sv.Written (same-gift h)
@@ -31,9 +37,9 @@ save-told (sv.Written n) (sv.Refused r) h = given-not-refused h
 save-told (sv.Written n) (sv.NotEncoded r) h = given-not-refused h
 save-told (sv.Refused r) (sv.Written m) h = given-not-refused (sym h)
 save-told (sv.Refused r) (sv.Refused q) h = ap sv.Refused (table-told r q (same-list h))
-save-told (sv.Refused r) (sv.NotEncoded q) h = apart (told r) (encoder.told q) (omega (arith, table-number r .1, encoder-number q)) h
+save-told (sv.Refused r) (sv.NotEncoded q) h = apart (told r) (encoder.told q) (two-layers r q) h
 save-told (sv.NotEncoded r) (sv.Written m) h = given-not-refused (sym h)
-save-told (sv.NotEncoded r) (sv.Refused q) h = apart (told q) (encoder.told r) (omega (arith, table-number q .1, encoder-number r)) (sym h)
+save-told (sv.NotEncoded r) (sv.Refused q) h = apart (told q) (encoder.told r) (two-layers q r) (sym h)
 save-told (sv.NotEncoded r) (sv.NotEncoded q) h = ap sv.NotEncoded (refusal-told r q (same-list h))
 
 module _ (table : SequenceTracker) (seqs : List ℕ) (secs : List ℤ) (out : List ℕ) where

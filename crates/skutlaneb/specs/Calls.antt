@@ -46,7 +46,7 @@ abbrev pub tableIn : State → List ℕ → List ℤ → Table
 tableIn s seqs secs = whole (tableOf s) seqs secs
 
 abbrev pub SkutOffers : State → List ℕ → List ℤ → ℕ → ℤ → TableAnswer → List ℕ → List ℤ → Type 0
-SkutOffers s seqs secs seq sec = Crosses (ofOffer (tableOf s)) (offering (tableIn s seqs secs) (record { 0 = seq }) (record { 0 = sec }))
+SkutOffers s seqs secs seq sec = Crosses ofOffer (offering (tableIn s seqs secs) (record { 0 = seq }) (record { 0 = sec }))
 
 abbrev pub SkutOffersPairs : State → List ℕ → List ℤ → List ℕ → List ℤ → TableAnswer → List ℕ → List ℤ → Type 0
 SkutOffersPairs s seqs secs fromSeqs fromSecs = Crosses ofLog (pairsLogOf (tableIn s seqs secs) fromSeqs fromSecs)

@@ -41,7 +41,8 @@ pub extern "C" fn skut_check(state: State, seqs: &[u64], secs: &[i64]) -> Answer
     calls::of_checked(tracker::check(table, seqs, secs))
 }
 
-// Where it is not refused, one of the three numbers of the tally is 1; skipped, for either reason, the state is as it was.
+// Where it is not refused, one of the three numbers of the tally is 1. Skipped, for either reason, or refused with 16 or 17, nothing of the
+// state but a total is another.
 #[no_mangle]
 pub extern "C" fn skut_offer(
     state: State,
@@ -54,7 +55,7 @@ pub extern "C" fn skut_offer(
 {
     let table = states::inner::table_of(state);
     let offered = offers::offer(table, seqs, secs, Seq(seq), Second(sec));
-    tables::of_offered(table, offered)
+    tables::of_offered(offered)
 }
 
 // A list of offers: two lists of one length. Stopped at a record, the answer tells its position.

@@ -3,6 +3,7 @@ use Prim.Native.Nat.{ℕ}
 use mathlib.Core.Bool.{cond}
 use lib.Dec.{ltb, eqb}
 use lib.IntN.{ℤ, pos}
+use Rattle.totals.specs.Totals.{noTotals}
 use Rattle.tracker.specs.declared.LastRecorded.{LastRecorded}
 use Rattle.tracker.specs.declared.LastRecorded.the-variants.{Never, At}
 use Rattle.tracker.specs.declared.SequenceTracker.{SequenceTracker}
@@ -27,6 +28,7 @@ tableOf s = record {
   capacity = cond (ltb 1 (s .«has_last»)) noCapacity (s .capacity);
   «interval_secs» = s .«interval_secs»;
   «last_recorded_ts» = lastIn (s .«has_last») (s .last);
+  totals = s .totals;
 }
 
 -- 0 rounds up, any other number down
@@ -43,8 +45,8 @@ lastOut (At s) = (1, s .0)
 abbrev pub stateOf : SequenceTracker → State
 stateOf t =
     let last = lastOut (t .«last_recorded_ts») in
-    record { count = t .count; capacity = t .capacity; «has_last» = last .0; «interval_secs» = t .«interval_secs»; last = last .1 }
+    record { count = t .count; capacity = t .capacity; «has_last» = last .0; «interval_secs» = t .«interval_secs»; last = last .1; totals = t .totals }
 
 -- where no state is returned, one that every call refuses
 abbrev pub noState : State
-noState = record { count = 0; capacity = noCapacity; «has_last» = 0; «interval_secs» = 0; last = pos 0 }
+noState = record { count = 0; capacity = noCapacity; «has_last» = 0; «interval_secs» = 0; last = pos 0; totals = noTotals }

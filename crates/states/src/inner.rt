@@ -32,11 +32,13 @@ pub fn table_of(state: State) -> SequenceTracker
 {
     let last = last_in(state.has_last, state.last);
     let capacity = capacity_in(state.has_last, state.capacity);
+    let totals = state.totals;
     SequenceTracker {
         count: state.count,
         capacity: capacity,
         interval_secs: state.interval_secs,
         last_recorded_ts: last,
+        totals: totals,
     }
 }
 
@@ -53,6 +55,7 @@ pub fn state_of(table: SequenceTracker) -> State
     ensures { λ r. ⌜ r ≡ stateOf table ⌝ }
 {
     let last = table.last_recorded_ts;
+    let totals = table.totals;
     match last {
         LastRecorded::Never => State {
             count: table.count,
@@ -60,6 +63,7 @@ pub fn state_of(table: SequenceTracker) -> State
             has_last: 0,
             interval_secs: table.interval_secs,
             last: 0,
+            totals: totals,
         },
         LastRecorded::At(s) => State {
             count: table.count,
@@ -67,6 +71,7 @@ pub fn state_of(table: SequenceTracker) -> State
             has_last: 1,
             interval_secs: table.interval_secs,
             last: s.0,
+            totals: totals,
         },
     }
 }
@@ -75,11 +80,13 @@ pub fn state_of(table: SequenceTracker) -> State
 pub fn no_state() -> State
     ensures { λ r. ⌜ r ≡ noState ⌝ }
 {
+    let none = totals::inner::no_totals();
     State {
         count: 0,
         capacity: NO_CAPACITY,
         has_last: 0,
         interval_secs: 0,
         last: 0,
+        totals: none,
     }
 }

@@ -8,6 +8,7 @@ use lib.Dec.{ltb}
 use lib.IntN.{ℤ}
 use lib.ListN.{length}
 use Rattle.told.specs.Told.{refused}
+use Rattle.totals.specs.declared.Totals.{Totals}
 use Rattle.tracker.specs.Table.{checkOf}
 use Rattle.tracker.specs.declared.LastRecorded.{LastRecorded}
 use Rattle.tracker.specs.declared.LastRecorded.the-variants.{Never, At}
@@ -30,14 +31,14 @@ unusable t e = record {
 }
 
 -- such a capacity is above 8,192
-no-capacity : (n i : ℕ) (l : LastRecorded) (seqs : List ℕ) (secs : List ℤ) → checkOf (record { count = n; capacity = noCapacity; «interval_secs» = i; «last_recorded_ts» = l }) seqs secs ≡ refused (14 ∷ [])
-no-capacity n i l seqs secs = refl
+no-capacity : (n i : ℕ) (l : LastRecorded) (m : Totals) (seqs : List ℕ) (secs : List ℤ) → checkOf (record { count = n; capacity = noCapacity; «interval_secs» = i; «last_recorded_ts» = l; totals = m }) seqs secs ≡ refused (14 ∷ [])
+no-capacity n i l m seqs secs = refl
 
 pub crossing : Crossing
 crossing = record {
   same = λ t. rw (last-back (t .«last_recorded_ts»), marked (t .«last_recorded_ts»));
   none = unusable _ (λ seqs secs. refl);
-  neither = λ s h. unusable (tableOf s) (λ seqs secs. rw (lt-ltb 1 (s .«has_last») h) (no-capacity (s .count) (s .«interval_secs») (lastIn (s .«has_last») (s .last)) seqs secs));
+  neither = λ s h. unusable (tableOf s) (λ seqs secs. rw (lt-ltb 1 (s .«has_last») h) (no-capacity (s .count) (s .«interval_secs») (lastIn (s .«has_last») (s .last)) (s .totals) seqs secs));
 }
   where
     last-back : (l : LastRecorded) → lastIn (lastOut l .0) (lastOut l .1) ≡ l

@@ -15,7 +15,6 @@ use restoring::Restored;
 use tallies::inner::counted;
 use tallies::inner::none_yet;
 use tracker::Made;
-use tracker::SequenceTracker;
 
 pub fn of_made(made: Made) -> TableAnswer
     ensures { λ r. ⌜ r ≡ ofTable (toldMade made) ⌝ }
@@ -26,14 +25,19 @@ pub fn of_made(made: Made) -> TableAnswer
     }
 }
 
-pub fn of_offered(table: SequenceTracker, offered: Offered) -> TableAnswer
-    ensures { λ r. ⌜ r ≡ ofOffer table (toldOffer offered) ⌝ }
+pub fn of_offered(offered: Offered) -> TableAnswer
+    ensures { λ r. ⌜ r ≡ ofOffer (toldOffer offered) ⌝ }
 {
     let tally = counted(none_yet(), offered);
     match offered {
-        Offered::Recorded(grown) => tables::with_table(answer(0, 0, 0, 0), grown, tally),
-        Offered::WentBack => tables::with_table(answer(0, 0, 0, 0), table, tally),
-        Offered::TooSoon => tables::with_table(answer(0, 0, 0, 0), table, tally),
+        Offered::Recorded(table) => tables::with_table(answer(0, 0, 0, 0), table, tally),
+        Offered::WentBack(table) => tables::with_table(answer(0, 0, 0, 0), table, tally),
+        Offered::TooSoon(table) => tables::with_table(answer(0, 0, 0, 0), table, tally),
+        Offered::PairRefused { why, table } => tables::with_table(
+            answers::inner::of_table(why),
+            table,
+            tally,
+        ),
         Offered::Refused(why) => tables::no_table(answers::inner::of_table(why)),
     }
 }

@@ -18,5 +18,6 @@ pub fn of_table_and(why: tracker::Refusal, last: u64) -> Answer
         tracker::Refusal::Settings => answer(15, last, 0, 0),
         tracker::Refusal::OfferedOutside => answer(16, last, 0, 0),
         tracker::Refusal::OfferedDrops => answer(17, last, 0, 0),
+        tracker::Refusal::TotalsFull => answer(31, last, 0, 0),
     }
 }

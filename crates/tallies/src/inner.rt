@@ -31,16 +31,17 @@ pub fn counted(tally: Tally, offered: Offered) -> Tally
             went_back: went_back,
             too_soon: too_soon,
         },
-        Offered::WentBack => Tally {
+        Offered::WentBack(_) => Tally {
             recorded: recorded,
             went_back: went_back + 1,
             too_soon: too_soon,
         },
-        Offered::TooSoon => Tally {
+        Offered::TooSoon(_) => Tally {
             recorded: recorded,
             went_back: went_back,
             too_soon: too_soon + 1,
         },
+        Offered::PairRefused { .. } => tally,
         Offered::Refused(_) => tally,
     }
 }

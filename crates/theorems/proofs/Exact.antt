@@ -19,7 +19,8 @@ use Rattle.order.proofs.Bools.{not-given}
 use Rattle.encoder.specs.Encode.{roomRule}
 use Rattle.decoder.specs.Decode.{listed}
 use Rattle.offers.specs.Whole.{Table}
-use Rattle.theorems.specs.Run.{Reload, Lent, keptIn, imageFor, strictTo, saveTo, listedFor, ReadsOthers}
+use Rattle.theorems.specs.Alike.{keptIn, imageFor, strictTo, saveTo}
+use Rattle.theorems.specs.Run.{Reload, Lent, listedFor, ReadsOthers}
 use Rattle.theorems.proofs.Sound.{Sound}
 use Rattle.theorems.proofs.Reload.{kept-fit, seqs-long, at-most, save-is, wrote}
 

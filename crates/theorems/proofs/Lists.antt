@@ -1,24 +1,25 @@
--- A list of offers leaves what the records that it counted leave when they are offered one by one, and counts what these are told.
+-- A list of offers leaves what the records that it offered leave when they are offered one by one, and counts what these are told.
 use mathlib.Core.Path.{_≡_, refl, sym, ap, _∙_}
 use mathlib.Core.Bool.{Bool, true, false, cond}
 use mathlib.Core.List.{List, [], _∷_, _++_}
-use Prim.Native.Nat.{ℕ, suc, _+_}
+use Prim.Native.Nat.{ℕ, zero, suc, _+_}
 use native.Mathlib.Omega.{arith}
 use lib.Dec.{eqb}
 use lib.IntN.{ℤ}
 use lib.ListN.{length, take}
+use lib.Seq.{take-all}
 use Rattle.told.specs.Told.{Told, gave, refused}
 use Rattle.tracker.specs.declared.TrackedSeq.{TrackedSeq}
 use Rattle.offers.specs.Whole.{Table, checkIn, Left, leaving}
-use Rattle.offers.specs.Offer.{Outcome, recorded, wentBack, tooSoon, offeredTo}
+use Rattle.offers.specs.Offer.{Outcome, recorded, wentBack, tooSoon, pairRefused, offeredTo}
 use Rattle.tallies.specs.declared.Tally.{Tally}
 use Rattle.tallies.specs.Tally.{noneYet, counted, total}
-use Rattle.log.specs.Log.{Log, unless, runOf, logOf}
+use Rattle.log.specs.Log.{Log, done, stopped, unless, unlessStopped, runOf, logOf}
 use Rattle.log.specs.Pairs.{recordsOf, pairsLogOf, extendOf}
 use Rattle.log.specs.Inner.{tells, afterRecord, stoppedAt}
-use Rattle.log.proofs.Run.{one-more}
-use Rattle.theorems.specs.Run.{ranTo, step, answers, keptIn}
-use Rattle.theorems.specs.Lists.{offersOf, tallyIn, tallied, OneByOne, ListsAreOffers}
+use Rattle.theorems.specs.Alike.{keptIn}
+use Rattle.theorems.specs.Run.{Event, ranTo, step, answers}
+use Rattle.theorems.specs.Lists.{offersOf, tallyIn, tallied, triedOf, OneByOne, ListsAreOffers}
 
 -- two tallies together
 abbrev plus : Tally → Tally → Tally
@@ -34,45 +35,81 @@ none-plus : (m : Tally) → plus noneYet m ≡ m
 none-plus m = same-tally (omega arith) (omega arith) (omega arith)
 
 -- an offer may be counted on either side
-plus-counted : (x : Outcome) (n m : Tally) → plus (counted (gave x) n) m ≡ plus n (counted (gave x) m)
-plus-counted (recorded t) n m = same-tally (omega arith) refl refl
-plus-counted wentBack n m = same-tally refl (omega arith) refl
-plus-counted tooSoon n m = same-tally refl refl (omega arith)
+plus-counted : (o : Told Outcome) (n m : Tally) → plus (counted o n) m ≡ plus n (counted o m)
+plus-counted (gave (recorded t)) n m = same-tally (omega arith) refl refl
+plus-counted (gave (wentBack t)) n m = same-tally refl (omega arith) refl
+plus-counted (gave (tooSoon t)) n m = same-tally refl refl (omega arith)
+plus-counted (gave (pairRefused what t)) n m = refl
+plus-counted (refused what) n m = refl
 
--- after n were counted: k more are, what is left is what they leave, and what is counted is what they are told
+-- k records were offered after n were counted: all, or those up to the refused one and that one
+abbrev UpTo : ℕ → Tally → List TrackedSeq → Told Log → Type 0
+UpTo k n rs (gave (done t m)) = length rs ≡ k
+UpTo k n rs (gave (stopped what t m)) = total m + 1 ≡ total n + k
+UpTo k n rs (refused what) = ⊥
+
+-- what a log leaves is what these leave, and what it counts is what they are told
 record More (w : Table) (n : Tally) (rs : List TrackedSeq) (l : Left (Told Log)) : Type 0 where
   k : ℕ
-  counts : total (tallyIn (l .answer)) ≡ total n + k
+  upto : UpTo k n rs (l .answer)
   leaves : l .table ≡ ranTo w (offersOf (take k rs))
   tallies : tallyIn (l .answer) ≡ plus n (tallied (answers w (offersOf (take k rs))))
 
+-- one record before them, which was counted
+up-one : (k : ℕ) (n m : Tally) (r : TrackedSeq) (rs : List TrackedSeq) (a : Told Log) → total m ≡ total n + 1 → UpTo k m rs a → UpTo (suc k) n (r ∷ rs) a
+up-one k n m r rs (gave (done t x)) c u = ap suc u
+up-one k n m r rs (gave (stopped what t x)) c u = omega (arith, c, u)
+up-one k n m r rs (refused what) c u = u
+
 run-more : (w : Table) (n : Tally) (i : ℕ) (rs : List TrackedSeq) → More w n rs (runOf w n i rs)
 unfolding runOf ranTo step answers tallied
-run-more w n i [] = record { k = 0; counts = omega arith; leaves = refl; tallies = plus-none n }
+run-more w n i [] = record { k = 0; upto = refl; leaves = refl; tallies = plus-none n }
 run-more w n i (r ∷ rs) = go (tells w r) refl (run-more (afterRecord w r) (counted (tells w r) n) (i + 1) rs)
   where
-    rest : Told Outcome → Left (Told Log)
-    rest o = runOf (offeredTo w (r .seq) (r .ts) o) (counted o n) (i + 1) rs
+    after : Told Outcome → Table
+    after o = offeredTo w (r .seq) (r .ts) o
 
-    go : (o : Told Outcome) → tells w r ≡ o → More (offeredTo w (r .seq) (r .ts) o) (counted o n) rs (rest o) → More w n (r ∷ rs) (unless o (stoppedAt w n i) (rest o))
-    go (refused what) e m = record { k = 0; counts = omega arith; leaves = refl; tallies = plus-none n }
-    go (gave x) e m = record {
+    rest : Told Outcome → Left (Told Log)
+    rest o = runOf (after o) (counted o n) (i + 1) rs
+
+    on : (o : Told Outcome) → tells w r ≡ o → total (counted o n) ≡ total n + 1 → More (after o) (counted o n) rs (rest o) → More w n (r ∷ rs) (rest o)
+    on o e c m = record {
       k = suc (m .k);
-      counts = m .counts ∙ omega (arith, one-more x n);
-      leaves = m .leaves ∙ ap (λ (o : Told Outcome). ranTo (offeredTo w (r .seq) (r .ts) o) (offersOf (take (m .k) rs))) (sym e);
+      upto = up-one (m .k) n (counted o n) r rs (rest o .answer) c (m .upto);
+      leaves = m .leaves ∙ ap (λ (o : Told Outcome). ranTo (after o) (offersOf (take (m .k) rs))) (sym e);
       tallies =
-          m .tallies ∙ plus-counted x n _
-          ∙ ap (λ (o : Told Outcome). plus n (counted o (tallied (answers (offeredTo w (r .seq) (r .ts) o) (offersOf (take (m .k) rs)))))) (sym e);
+          m .tallies ∙ plus-counted o n _
+          ∙ ap (λ (o : Told Outcome). plus n (counted o (tallied (answers (after o) (offersOf (take (m .k) rs)))))) (sym e);
     }
+
+    ends : (o : Told Outcome) (what : List ℕ) → tells w r ≡ o → ((x : Tally) → counted o x ≡ x) → More w n (r ∷ rs) (stoppedAt (after o) n i what)
+    ends o what e none = record {
+      k = suc zero;
+      upto = refl;
+      leaves = ap after (sym e);
+      tallies = plus-none n ∙ ap (plus n) (sym (none noneYet)) ∙ ap (λ (o : Told Outcome). plus n (counted o noneYet)) (sym e);
+    }
+
+    go : (o : Told Outcome) → tells w r ≡ o → More (after o) (counted o n) rs (rest o) → More w n (r ∷ rs) (unlessStopped o (stoppedAt (after o) n i) (rest o))
+    go (gave (recorded t)) e m = on (gave (recorded t)) e (omega arith) m
+    go (gave (wentBack t)) e m = on (gave (wentBack t)) e (omega arith) m
+    go (gave (tooSoon t)) e m = on (gave (tooSoon t)) e (omega arith) m
+    go (gave (pairRefused what t)) e m = ends (gave (pairRefused what t)) what e (λ x. refl)
+    go (refused what) e m = ends (refused what) what e (λ x. refl)
 
 -- from the first record on
 run-one-by-one : (w : Table) (rs : List TrackedSeq) → OneByOne w rs (runOf w noneYet 0 rs)
 run-one-by-one w rs =
     let m = run-more w noneYet 0 rs in
-    let e : m .k ≡ total (tallyIn (runOf w noneYet 0 rs .answer)) = omega (arith, m .counts) in (
-      m .leaves ∙ ap (λ (k : ℕ). ranTo w (offersOf (take k rs))) e,
-      m .tallies ∙ none-plus (tallied (answers w (offersOf (take (m .k) rs)))) ∙ ap (λ (k : ℕ). tallied (answers w (offersOf (take k rs)))) e,
+    let e = tried (m .k) (runOf w noneYet 0 rs .answer) (m .upto) in (
+      m .leaves ∙ ap (ranTo w) e,
+      m .tallies ∙ none-plus (tallied (answers w (offersOf (take (m .k) rs)))) ∙ ap (λ (es : List Event). tallied (answers w es)) e,
     )
+  where
+    tried : (k : ℕ) (a : Told Log) → UpTo k noneYet rs a → offersOf (take k rs) ≡ triedOf rs a
+    tried k (gave (done t x)) u = ap offersOf (take-all k rs (omega (arith, u)))
+    tried k (gave (stopped what t x)) u = let e : k ≡ total x + 1 = omega (arith, u) in ap (λ (j : ℕ). offersOf (take j rs)) e
+    tried k (refused what) u = absurd u
 
 module _ (w : Table) where
   list-one-by-one : (rs : List TrackedSeq) → OneByOne w rs (logOf w rs)

@@ -1,8 +1,10 @@
--- Two tables that keep the same pairs are told the same of a list of offers, and keep the same pairs afterwards.
-use mathlib.Core.Path.{_≡_, refl, ap, subst}
+-- Two tables that are alike are told the same of a list of offers but for the totals, and keep the same pairs afterwards.
+use mathlib.Core.Path.{_≡_, refl, sym, ap, subst, _∙_}
 use mathlib.Core.Bool.{Bool, true, false, cond}
 use mathlib.Core.List.{List, [], _∷_, _++_}
-use Prim.Native.Nat.{ℕ, _+_}
+use Prim.Native.Nat.{ℕ, _+_, _≤_}
+use native.Mathlib.Omega.{arith}
+use borrow.Author.Tests.{eqb-true}
 use lib.Dec.{eqb}
 use lib.IntN.{ℤ}
 use lib.ListN.{length}
@@ -10,54 +12,92 @@ use Rattle.told.specs.Told.{Told, gave, refused}
 use Rattle.tracker.specs.declared.TrackedSeq.{TrackedSeq}
 use Rattle.tracker.specs.declared.SequenceTracker.{SequenceTracker}
 use Rattle.offers.specs.Whole.{Table, checkIn, Left, leaving}
-use Rattle.offers.specs.Offer.{Outcome}
+use Rattle.totals.specs.Totals.{sumOf, most}
+use Rattle.totals.specs.declared.Totals.{Totals}
+use Rattle.tracker.proofs.Good.{fine, count-seqs, count-secs}
+use Rattle.offers.specs.Offer.{Outcome, recorded, wentBack, tooSoon, pairRefused}
+use Rattle.offers.specs.Rest.{offerWith}
+use Rattle.offers.proofs.Alike.{Alike, alike-told}
+use Rattle.offers.proofs.Counted.{at-most-one}
 use Rattle.tallies.specs.declared.Tally.{Tally}
 use Rattle.tallies.specs.Tally.{noneYet, counted}
-use Rattle.log.specs.Log.{Log, done, stopped, unless, runOf, logOf}
+use Rattle.log.specs.Log.{Log, done, stopped, unless, unlessStopped, runOf, logOf}
+use Rattle.log.specs.Rest.{logRest}
+use Rattle.log.proofs.Records.{records-length, front-length}
 use Rattle.log.specs.Pairs.{recordsOf, pairsLogOf, extendOf}
 use Rattle.log.specs.Inner.{tells, afterRecord, stoppedAt}
-use Rattle.theorems.specs.Run.{keptIn, SameLog}
-use Rattle.theorems.proofs.Sound.{Same, offered-told, offered-same}
+use Rattle.theorems.specs.Alike.{keptIn, ToldAlike}
+use Rattle.theorems.proofs.Sound.{offered-alike}
 
-pub same-kept : (w v : Table) → Same w v → keptIn w ≡ keptIn v
-same-kept w v M = rw (← M .state) (λ i. record { seqs = M .alike .same-seqs i; secs = M .alike .same-secs i })
+pub kept-same : (w v : Table) → Alike w v → keptIn w ≡ keptIn v
+kept-same w v a = λ i. record { seqs = a .same-seqs i; secs = a .same-secs i }
 
-run-same : (w v : Table) (n : Tally) (i : ℕ) (rs : List TrackedSeq) → Same w v → SameLog (runOf w n i rs) (runOf v n i rs)
+-- what is told is the same but for the totals, and the tables are alike
+abbrev LeftAlike : Left (Told Log) → Left (Told Log) → Type 0
+LeftAlike l m = (logRest (l .answer) ≡ logRest (m .answer)) × Alike (l .table) (m .table)
+
+-- a log that stops, or goes on, after two offers that are told the same but for the totals
+both-ways : (m : Totals) (o : Told Outcome) (w v : Table) (n : Tally) (i : ℕ) (l k : Left (Told Log)) → Alike w v → LeftAlike l k
+    → LeftAlike (unlessStopped o (stoppedAt w n i) l) (unlessStopped (offerWith m o) (stoppedAt v n i) k)
+both-ways m (gave (recorded t)) w v n i l k a h = h
+both-ways m (gave (wentBack t)) w v n i l k a h = h
+both-ways m (gave (tooSoon t)) w v n i l k a h = h
+both-ways m (gave (pairRefused what t)) w v n i l k a h = (ap (λ (s : SequenceTracker). gave (stopped (what ++ (i ∷ [])) s n)) (a .same-rest), a)
+both-ways m (refused what) w v n i l k a h = (ap (λ (s : SequenceTracker). gave (stopped (what ++ (i ∷ [])) s n)) (a .same-rest), a)
+
+-- they are counted the same
+counted-with : (m : Totals) (o : Told Outcome) (n : Tally) → counted (offerWith m o) n ≡ counted o n
+counted-with m (gave (recorded t)) n = refl
+counted-with m (gave (wentBack t)) n = refl
+counted-with m (gave (tooSoon t)) n = refl
+counted-with m (gave (pairRefused what t)) n = refl
+counted-with m (refused what) n = refl
+
+run-alike : (w v : Table) (n : Tally) (i : ℕ) (rs : List TrackedSeq) → Alike w v → sumOf (w .state .totals) + length rs ≤ most → sumOf (v .state .totals) + length rs ≤ most → LeftAlike (runOf w n i rs) (runOf v n i rs)
 unfolding runOf
-run-same w v n i [] M = (ap (λ (s : SequenceTracker). gave (done s n)) (M .state), same-kept w v M)
-run-same w v n i (r ∷ rs) M =
-    let e = offered-told w v M (r .seq) (r .ts) in
-    let more = run-same (afterRecord w r) (afterRecord v r) (counted (tells w r) n) (i + 1) rs (offered-same w v M (r .seq) (r .ts)) in
-    subst (λ (o : Told Outcome). SameLog (unless (tells w r) (stoppedAt w n i) (runOf (afterRecord w r) (counted (tells w r) n) (i + 1) rs)) (unless o (stoppedAt v n i) (runOf (afterRecord v r) (counted o n) (i + 1) rs))) e
-    (go (tells w r) (runOf (afterRecord w r) (counted (tells w r) n) (i + 1) rs) (runOf (afterRecord v r) (counted (tells w r) n) (i + 1) rs) more)
-  where
-    go : (o : Told Outcome) (l m : Left (Told Log)) → SameLog l m → SameLog (unless o (stoppedAt w n i) l) (unless o (stoppedAt v n i) m)
-    go (gave x) l m h = h
-    go (refused what) l m h = (ap (λ (s : SequenceTracker). gave (stopped (what ++ (i ∷ [])) s n)) (M .state), same-kept w v M)
+run-alike w v n i [] a room room′ = (ap (λ (s : SequenceTracker). gave (done s n)) (a .same-rest), a)
+run-alike w v n i (r ∷ rs) a room room′ =
+    let one : sumOf (w .state .totals) + 1 ≤ most = omega (arith, room) in
+    let one′ : sumOf (v .state .totals) + 1 ≤ most = omega (arith, room′) in
+    let t = alike-told (r .seq) (r .ts) w v a one one′ in
+    let after = offered-alike w v a (r .seq) (r .ts) one one′ in
+    let more = run-alike (afterRecord w r) (afterRecord v r) (counted (tells w r) n) (i + 1) rs after (omega (arith, room, at-most-one w (r .seq) (r .ts))) (omega (arith, room′, at-most-one v (r .seq) (r .ts))) in
+    let e : counted (tells v r) n ≡ counted (tells w r) n = ap (λ (o : Told Outcome). counted o n) (t .1) ∙ counted-with (t .0) (tells w r) n in
+    rw e
+    (subst (λ (o : Told Outcome). LeftAlike (unlessStopped (tells w r) (stoppedAt (afterRecord w r) n i) (runOf (afterRecord w r) (counted (tells w r) n) (i + 1) rs)) (unlessStopped o (stoppedAt (afterRecord v r) n i) (runOf (afterRecord v r) (counted (tells w r) n) (i + 1) rs))) (sym (t .1))
+    (both-ways (t .0) (tells w r) (afterRecord w r) (afterRecord v r) n i _ _ after more))
 
-module _ (w v : Table) (g : checkIn w ≡ gave tt) (g′ : checkIn v ≡ gave tt) (M : Same w v) where
-  pub log-same : (rs : List TrackedSeq) → SameLog (logOf w rs) (logOf v rs)
-  log-same rs = rw (g, g′) (run-same w v noneYet 0 rs M)
+module _ (w v : Table) (g : checkIn w ≡ gave tt) (g′ : checkIn v ≡ gave tt) (a : Alike w v) where
+  -- what the logs leave keeps the same pairs
+  run-told : (rs : List TrackedSeq) → sumOf (w .state .totals) + length rs ≤ most → sumOf (v .state .totals) + length rs ≤ most → ToldAlike logRest (runOf w noneYet 0 rs) (runOf v noneYet 0 rs)
+  run-told rs room room′ = let h = run-alike w v noneYet 0 rs a room room′ in (h .0, kept-same _ _ (h .1))
 
-  pub pairs-same : (qs : List ℕ) (ss : List ℤ) → SameLog (pairsLogOf w qs ss) (pairsLogOf v qs ss)
-  pairs-same qs ss = go (eqb (length qs) (length ss))
-    where
-      go : (b : Bool) → SameLog (cond b (logOf w (recordsOf qs ss)) (leaving (refused (18 ∷ [])) w)) (cond b (logOf v (recordsOf qs ss)) (leaving (refused (18 ∷ [])) v))
-      go true = log-same (recordsOf qs ss)
-      go false = (refl, same-kept w v M)
+  module _ (m : ℕ) (room : sumOf (w .state .totals) + m ≤ most) (room′ : sumOf (v .state .totals) + m ≤ most) where
+    pub log-alike : (rs : List TrackedSeq) → length rs ≤ m → ToldAlike logRest (logOf w rs) (logOf v rs)
+    log-alike rs few = rw (g, g′) (run-told rs (omega (arith, room, few)) (omega (arith, room′, few)))
 
-  pub extend-same : (other : Table) → SameLog (extendOf w other) (extendOf v other)
-  extend-same other = rw (g, g′) (go (checkIn other))
-    where
-      rs : List TrackedSeq
-      rs = recordsOf (keptIn other .seqs) (keptIn other .secs)
+    pub pairs-alike : (qs : List ℕ) (ss : List ℤ) → length qs ≤ m → ToldAlike logRest (pairsLogOf w qs ss) (pairsLogOf v qs ss)
+    pairs-alike qs ss few = go (eqb (length qs) (length ss)) refl
+      where
+        go : (b : Bool) → eqb (length qs) (length ss) ≡ b → ToldAlike logRest (cond b (logOf w (recordsOf qs ss)) (leaving (refused (18 ∷ [])) w)) (cond b (logOf v (recordsOf qs ss)) (leaving (refused (18 ∷ [])) v))
+        go true e = log-alike (recordsOf qs ss) (omega (arith, few, records-length (length qs) qs ss refl (sym (eqb-true (length qs) (length ss) e))))
+        go false e = (refl, kept-same w v a)
 
-      bad : Table → List ℕ → Left (Told Log)
-      bad w what = leaving (refused (what ++ (1 ∷ []))) w
+    pub extend-alike : (other : Table) → other .state .count ≤ m → ToldAlike logRest (extendOf w other) (extendOf v other)
+    extend-alike other few = rw (g, g′) (go (checkIn other) refl)
+      where
+        rs : List TrackedSeq
+        rs = recordsOf (keptIn other .seqs) (keptIn other .secs)
 
-      go : (o : Told (Unit {0})) → SameLog (unless o (bad w) (runOf w noneYet 0 rs)) (unless o (bad v) (runOf v noneYet 0 rs))
-      go (gave x) = run-same w v noneYet 0 rs M
-      go (refused what) = (refl, same-kept w v M)
+        bad : Table → List ℕ → Left (Told Log)
+        bad w what = leaving (refused (what ++ (1 ∷ []))) w
 
-  pub extend-by-same : (other : Table) → extendOf other w ≡ extendOf other v
-  extend-by-same other = rw (g, g′, ap (λ p. p .seqs) (same-kept w v M), ap (λ p. p .secs) (same-kept w v M))
+        long : checkIn other ≡ gave tt → length rs ≡ other .state .count
+        long h = let ok = fine (other .state) (other .seqs) (other .secs) h .state in front-length (other .state .count) (other .seqs) (other .secs) (count-seqs _ _ _ ok) (count-secs _ _ _ ok)
+
+        go : (o : Told (Unit {0})) → checkIn other ≡ o → ToldAlike logRest (unless o (bad w) (runOf w noneYet 0 rs)) (unless o (bad v) (runOf v noneYet 0 rs))
+        go (gave tt) h = run-told rs (omega (arith, room, few, long h)) (omega (arith, room′, few, long h))
+        go (refused what) h = (refl, kept-same w v a)
+
+  pub extend-by-alike : (other : Table) → extendOf other w ≡ extendOf other v
+  extend-by-alike other = rw (g, g′, a .same-seqs, a .same-secs)

@@ -1,4 +1,4 @@
--- What a strict save wrote comes back: the same kept pairs, the same state but for the interval, which is that of the restore, a good table.
+-- What a strict save wrote comes back: the same kept pairs, the same state but for the interval, which is that of the restore, and the totals, a good table.
 use mathlib.Core.Path.{_≡_, refl, sym, ap, _∙_}
 use mathlib.Core.Bool.{Bool, true, false, cond}
 use mathlib.Core.List.{List, [], _∷_, _++_}
@@ -17,21 +17,26 @@ use Rattle.gorilla.specs.Parser.{read}
 use Rattle.gorilla.specs.RoundTrip.{Fit}
 use Rattle.gorilla.specs.Wide.{wideOf}
 use Rattle.gorilla.proofs.RoundTrip.{strict-reads-back}
-use Rattle.limits.specs.Settings.{badSettings, roomOf}
+use Rattle.limits.specs.Settings.{badSettings}
+use Rattle.totals.specs.Totals.{noTotals, sumOf}
 use Rattle.fresh.specs.Fresh.{freshTable, defaultCapacity}
+use Rattle.tracker.specs.Rest.{restOf}
 use Rattle.tracker.specs.Table.{pairsOf}
 use Rattle.order.proofs.Bools.{not-given}
 use Rattle.tracker.proofs.Good.{fine, sorted-again, few, count-seqs, count-secs}
-use Rattle.tracker.proofs.Kept.{kept-at, pairs-kept, check-kept}
+use Rattle.tracker.proofs.Kept.{kept-at, pairs-kept}
+use Rattle.offers.proofs.Alike.{Alike, alike-check}
 use Rattle.offers.proofs.Rise.{over-length}
 use Rattle.encoder.specs.Encode.{roomRule}
 use Rattle.settling.specs.Settle.{lastOf}
 use Rattle.restoring.specs.Restore.{readTable, judged, restoreAt}
 use Rattle.restoring.specs.Interval.{withInterval}
 use Rattle.offers.specs.Whole.{Table}
-use Rattle.theorems.specs.Run.{Restoring, plain, naming, restoreBy, intervalBy, Reload, Lent, keptIn, imageFor, strictTo, stored, restoreTo, reloadedTo, reloaded, step}
+use Rattle.theorems.specs.Alike.{keptIn, imageFor, strictTo}
+use Rattle.theorems.specs.Run.{Restoring, plain, naming, restoreBy, intervalBy, Reload, Lent, stored, restoreTo, reloadedTo, reloaded, step}
 use Rattle.theorems.proofs.Kept.{inside-fits}
-use Rattle.theorems.proofs.Sound.{Sound, Same, agreed-in, same-self}
+use Rattle.theorems.proofs.Sound.{Sound, agreed-in, alike-self}
+use Rattle.theorems.proofs.Logged.{kept-same}
 
 -- `restore` is a restore that names the default interval
 by-interval : (r : Restoring) (bytes seqs : List ℕ) (secs : List ℤ) → restoreBy r bytes seqs secs ≡ restoreAt (intervalBy r) bytes seqs secs
@@ -66,6 +71,7 @@ module _ (interval : ℕ) (w : Table) (S : Sound interval w) where
     capacity = sym (S .capacity) i;
     «interval_secs» = named;
     «last_recorded_ts» = (ap (lastOf (keptIn w .secs)) seqs-long ∙ sym (S .last)) i;
+    totals = noTotals;
   }
 
   pairs-back : pairsOf (keptIn w .seqs) (keptIn w .secs) (length (keptIn w .seqs)) ≡ gave tt
@@ -75,12 +81,13 @@ module _ (interval : ℕ) (w : Table) (S : Sound interval w) where
       (pairs-kept n (keptIn w .seqs) (w .seqs) (keptIn w .secs) (w .secs) (take-take n n (w .seqs) (le-refl n)) (take-take n n (w .secs) (le-refl n))
       ∙ sorted-again (w .seqs) (w .secs) n (fine (w .state) (w .seqs) (w .secs) (S .good) .pairs))
 
-  own-state : (named : ℕ) → named ≡ interval → withInterval named (w .state) ≡ w .state
+  own-state : (named : ℕ) → named ≡ interval → withInterval named (w .state) ≡ restOf (w .state)
   own-state named e = λ i. record {
     count = w .state .count;
     capacity = w .state .capacity;
     «interval_secs» = (e ∙ sym (S .own-interval)) i;
     «last_recorded_ts» = w .state .«last_recorded_ts»;
+    totals = noTotals;
   }
 
   own-valid : badSettings defaultCapacity interval ≡ false
@@ -92,37 +99,31 @@ module _ (interval : ℕ) (w : Table) (S : Sound interval w) where
   -- ---- the table in other arrays
 
   moved : List ℕ → List ℤ → Table
-  moved seqs secs = record { state = w .state; seqs = over (keptIn w .seqs) seqs; secs = over (keptIn w .secs) secs }
+  moved seqs secs = record { state = restOf (w .state); seqs = over (keptIn w .seqs) seqs; secs = over (keptIn w .secs) secs }
 
   module _ (seqs : List ℕ) (secs : List ℤ) (lent : Lent seqs secs) where
-    moved-same : Same (moved seqs secs) w
+    moved-alike : Alike (moved seqs secs) w
     unfolding moved
-    moved-same = record {
-      state = refl;
-      alike = record {
-        same-seqs = take-at (keptIn w .seqs) _ (w .state .count) seqs-long;
-        same-secs = take-at (keptIn w .secs) _ (w .state .count) secs-long;
-        room-seqs = rw (S .capacity, over-length (keptIn w .seqs) seqs (omega (arith, seqs-long, at-most, lent .0))) (lent .0);
-        room-seqs′ = agreed-in interval w S .fit-seqs;
-        room-secs = rw (S .capacity, over-length (keptIn w .secs) secs (omega (arith, secs-long, at-most, lent .1))) (lent .1);
-        room-secs′ = agreed-in interval w S .fit-secs;
-      };
+    moved-alike = record {
+      same-rest = refl;
+      same-seqs = take-at (keptIn w .seqs) _ (w .state .count) seqs-long;
+      same-secs = take-at (keptIn w .secs) _ (w .state .count) secs-long;
+      room-seqs = rw (S .capacity, over-length (keptIn w .seqs) seqs (omega (arith, seqs-long, at-most, lent .0))) (lent .0);
+      room-seqs′ = agreed-in interval w S .fit-seqs;
+      room-secs = rw (S .capacity, over-length (keptIn w .secs) secs (omega (arith, secs-long, at-most, lent .1))) (lent .1);
+      room-secs′ = agreed-in interval w S .fit-secs;
     }
 
     moved-kept : keptIn (moved seqs secs) ≡ keptIn w
     unfolding moved
-    moved-kept = λ i. record { seqs = moved-same .alike .same-seqs i; secs = moved-same .alike .same-secs i }
+    moved-kept = kept-same (moved seqs secs) w moved-alike
 
     moved-sound : Sound interval (moved seqs secs)
     unfolding moved
     moved-sound =
-        let a = moved-same .alike in
-        let room = roomOf (w .state .capacity) in
+        let a = moved-alike in
         record {
-          good = check-kept (w .state) (over (keptIn w .seqs) seqs) (w .seqs) (over (keptIn w .secs) secs) (w .secs) (a .same-seqs) (a .same-secs)
-              (le-ltb (length (over (keptIn w .seqs) seqs)) room (a .room-seqs) ∙ sym (le-ltb (length (w .seqs)) room (a .room-seqs′)))
-              (le-ltb (length (over (keptIn w .secs) secs)) room (a .room-secs) ∙ sym (le-ltb (length (w .secs)) room (a .room-secs′)))
-              ∙ S .good;
+          good = alike-check (moved seqs secs) w a (omega arith) (agreed-in interval w S .totals-fit) ∙ S .good;
           capacity = S .capacity;
           own-interval = S .own-interval;
           last = rw (a .same-secs) (S .last);
@@ -169,7 +170,7 @@ module _ (interval : ℕ) (w : Table) (S : Sound interval w) where
       reload-is : intervalBy (l .by) ≡ interval → Lent (l .seqs) (l .secs) → reloadedTo w l (gave n) (restoreTo w l) ≡ moved (l .seqs) (l .secs)
       unfolding moved
       reload-is own lent =
-          let s : restoreTo w l ≡ gave (w .state) = state-restored (rw own own-valid) lent ∙ ap gave (own-state (intervalBy (l .by)) own) in
+          let s : restoreTo w l ≡ gave (restOf (w .state)) = state-restored (rw own own-valid) lent ∙ ap gave (own-state (intervalBy (l .by)) own) in
           rw (s, reads-back)
 
     module _ (own : intervalBy (l .by) ≡ interval) (lent : Lent (l .seqs) (l .secs)) where
@@ -180,9 +181,18 @@ module _ (interval : ℕ) (w : Table) (S : Sound interval w) where
           go (gave n) e = rw (reload-is n e own lent) (moved-sound (l .seqs) (l .secs) lent)
           go (refused what) e = S
 
-      pub reload-same : Same (reloadedTo w l (strictTo w (l .out)) (restoreTo w l)) w
-      reload-same = go (strictTo w (l .out)) refl
+      pub reload-alike : Alike (reloadedTo w l (strictTo w (l .out)) (restoreTo w l)) w
+      reload-alike = go (strictTo w (l .out)) refl
         where
-          go : (told : Told ℕ) → strictTo w (l .out) ≡ told → Same (reloadedTo w l told (restoreTo w l)) w
-          go (gave n) e = rw (reload-is n e own lent) (moved-same (l .seqs) (l .secs) lent)
-          go (refused what) e = same-self interval w S
+          go : (told : Told ℕ) → strictTo w (l .out) ≡ told → Alike (reloadedTo w l told (restoreTo w l)) w
+          go (gave n) e = rw (reload-is n e own lent) (moved-alike (l .seqs) (l .secs) lent)
+          go (refused what) e = alike-self interval w S
+
+      -- and counts no offer more
+      pub reload-counts : sumOf (reloadedTo w l (strictTo w (l .out)) (restoreTo w l) .state .totals) ≤ sumOf (w .state .totals)
+      unfolding moved
+      reload-counts = go (strictTo w (l .out)) refl
+        where
+          go : (told : Told ℕ) → strictTo w (l .out) ≡ told → sumOf (reloadedTo w l told (restoreTo w l) .state .totals) ≤ sumOf (w .state .totals)
+          go (gave n) e = rw (reload-is n e own lent) (omega arith)
+          go (refused what) e = le-refl (sumOf (w .state .totals))

@@ -68,6 +68,7 @@ module _ (interval : ℕ) (valid : badSettings defaultCapacity interval ≡ fals
             last-placed = last .0;
             last-inside = last .1;
             last-above = last .2;
+            totals-fit = omega arith;
           };
           pairs = sorted (over (p .seqs) seqs) (over (p .secs) secs) n (pairs-kept n (over (p .seqs) seqs) (p .seqs) (over (p .secs) secs) (p .secs) s t ∙ h);
         });

@@ -1,9 +1,9 @@
 -- The third demand, proved: at any valid interval, and so at the default one; and that restores at another interval than the table's own break it.
 use mathlib.Core.Path.{_≡_, refl, sym, ap, ap₂, _∙_}
 use mathlib.Core.Bool.{false}
-use mathlib.Core.List.{List, [], _∷_}
-use Prim.Native.Nat.{ℕ}
-use borrow.Author.Tests.{le-ltb}
+use mathlib.Core.List.{List, [], _∷_, map}
+use Prim.Native.Nat.{ℕ, _+_, _≤_}
+use native.Mathlib.Omega.{arith}
 use lib.IntN.{ℤ}
 use lib.ListN.{length, replicate}
 use Rattle.told.specs.Told.{Told, gave}
@@ -11,78 +11,75 @@ use Rattle.told.proofs.Unique.{same-gift}
 use Rattle.bit_lists.specs.BitList.{natBits, natFrom, bytesOf, packed}
 use Rattle.gorilla.specs.Format.{valuesBits, arrayBits, leBytes, imageBytes}
 use Rattle.gorilla.specs.Wide.{wideIn, wideOf}
-use Rattle.limits.specs.Settings.{badSettings, roomOf}
+use Rattle.limits.specs.Settings.{badSettings}
 use Rattle.fresh.specs.Fresh.{defaultCapacity, defaultIntervalSecs, emptyTable, newTable, configOf}
 use Rattle.order.proofs.Bools.{passed}
-use Rattle.tracker.specs.Table.{checkOf}
+use Rattle.totals.specs.Totals.{noTotals, sumOf, most}
+use Rattle.tracker.specs.Rest.{restOf}
 use Rattle.tracker.specs.declared.SequenceTracker.{SequenceTracker}
 use Rattle.encoder.specs.Encode.{roomRule}
-use Rattle.lookup.specs.Laws.{SameKept}
-use Rattle.lookup.proofs.Laws.{kept-ts, kept-seq}
 use Rattle.offers.specs.Offer.{Outcome}
+use Rattle.offers.specs.Rest.{offerRest}
 use Rattle.offers.specs.Whole.{Table, whole}
-use Rattle.theorems.specs.Run.{Lent, naming, Reload, strictTo, restoreTo, reloadedTo, Event, offered, reloaded, step, ranTo, answers, offersIn, Proper, Unharmed, GoesOn, Demand, DemandByDefault, OwnIntervalNeeded}
-use Rattle.theorems.proofs.Sound.{Sound, Same, offered-sound, offered-told, offered-same, empty-sound, same-self, same-trans}
+use Rattle.offers.proofs.Alike.{Alike}
+use Rattle.offers.proofs.Counted.{at-most-one}
+use Rattle.theorems.specs.Alike.{strictTo}
+use Rattle.theorems.specs.Run.{Lent, naming, Reload, restoreTo, reloadedTo, Event, offered, reloaded, step, ranTo, answers, offersIn, Proper, Unharmed, GoesOn, Demand, DemandByDefault, OwnIntervalNeeded}
+use Rattle.theorems.proofs.Sound.{Sound, offered-sound, offered-told, offered-alike, empty-sound, alike-self, alike-trans}
 use Rattle.theorems.proofs.Restored.{restored-sound}
-use Rattle.theorems.proofs.Reload.{save-is, restores, reload-sound, reload-same}
+use Rattle.theorems.proofs.Reload.{save-is, restores, reload-sound, reload-alike, reload-counts}
 use Rattle.theorems.proofs.Exact.{refuses, with-20, writes}
-use Rattle.theorems.proofs.Logged.{same-kept, log-same, pairs-same, extend-same, extend-by-same}
+use Rattle.theorems.proofs.Logged.{kept-same}
+use Rattle.theorems.proofs.Alike.{answer-alike}
+use Rattle.theorems.proofs.Totals.{made-zero, restored-zero}
 
--- what a run at this interval keeps up, of the table w that it has led to and the table v of the offers alone
-record Kept (interval : ℕ) (w v : Table) : Type 0 where
+-- what a run at this interval keeps up, of the table w that it has led to and the table v of the offers alone, with room for k more offers
+record Kept (interval k : ℕ) (w v : Table) : Type 0 where
   sound : Sound interval w
   sound′ : Sound interval v
-  same : Same w v
+  alike : Alike w v
+  room : sumOf (w .state .totals) + k ≤ most
+  room′ : sumOf (v .state .totals) + k ≤ most
 
-run-kept : (interval : ℕ) (w v : Table) (es : List Event) → Proper interval es → Kept interval w v → (answers w es ≡ answers v (offersIn es)) × Kept interval (ranTo w es) (ranTo v (offersIn es))
+run-kept : (interval m : ℕ) (w v : Table) (es : List Event) → Proper interval es → Kept interval (length (offersIn es) + m) w v
+    → (map offerRest (answers w es) ≡ map offerRest (answers v (offersIn es))) × Kept interval m (ranTo w es) (ranTo v (offersIn es))
 unfolding step ranTo answers offersIn Proper
-run-kept interval w v [] p K = (refl, K)
-run-kept interval w v (offered seq ts ∷ es) (h, p) K =
-    let r = run-kept interval (step w (offered seq ts)) (step v (offered seq ts)) es p (record {
+run-kept interval m w v [] p K = (refl, record { sound = K .sound; sound′ = K .sound′; alike = K .alike; room = omega (arith, K .room); room′ = omega (arith, K .room′) })
+run-kept interval m w v (offered seq ts ∷ es) (h, p) K =
+    let one : sumOf (w .state .totals) + 1 ≤ most = omega (arith, K .room) in
+    let one′ : sumOf (v .state .totals) + 1 ≤ most = omega (arith, K .room′) in
+    let r = run-kept interval m (step w (offered seq ts)) (step v (offered seq ts)) es p (record {
       sound = offered-sound interval w (K .sound) seq ts h;
       sound′ = offered-sound interval v (K .sound′) seq ts h;
-      same = offered-same w v (K .same) seq ts;
+      alike = offered-alike w v (K .alike) seq ts one one′;
+      room = omega (arith, K .room, at-most-one w seq ts);
+      room′ = omega (arith, K .room′, at-most-one v seq ts);
     }) in
-    (ap₂ (λ (o : Told Outcome) (l : List (Told Outcome)). o ∷ l) (offered-told w v (K .same) seq ts) (r .0), r .1)
-run-kept interval w v (reloaded l ∷ es) (own, h, p) K =
-    run-kept interval (step w (reloaded l)) v es p (record {
+    (ap₂ (λ (o : Told Outcome) (l : List (Told Outcome)). o ∷ l) (offered-told w v (K .alike) seq ts one one′) (r .0), r .1)
+run-kept interval m w v (reloaded l ∷ es) (own, h, p) K =
+    run-kept interval m (step w (reloaded l)) v es p (record {
       sound = reload-sound interval w (K .sound) l own h;
       sound′ = K .sound′;
-      same = same-trans (step w (reloaded l)) w v (reload-same interval w (K .sound) l own h) (K .same);
+      alike = alike-trans (reload-alike interval w (K .sound) l own h) (K .alike);
+      room = omega (arith, K .room, reload-counts interval w (K .sound) l own h);
+      room′ = K .room′;
     })
 
-unharmed : (interval : ℕ) (w v : Table) → Kept interval w v → Unharmed w v
-unharmed interval w v K =
-    let M = K .same in
-    let a = M .alike in
-    let room = roomOf (w .state .capacity) in
-    let there : checkOf (w .state) (v .seqs) (v .secs) ≡ gave tt = rw (M .state) (K .sound′ .good) in
-    let k : SameKept (w .state) (w .seqs) (v .seqs) (w .secs) (v .secs) = record {
-      same-seqs = a .same-seqs;
-      same-secs = a .same-secs;
-      room-seqs = le-ltb (length (w .seqs)) room (a .room-seqs) ∙ sym (le-ltb (length (v .seqs)) room (a .room-seqs′));
-      room-secs = le-ltb (length (w .secs)) room (a .room-secs) ∙ sym (le-ltb (length (v .secs)) room (a .room-secs′));
-    } in
-    record {
-      good = K .sound .good;
-      pairs = same-kept w v M;
-      state = M .state;
-      by-log = log-same w v (K .sound .good) (K .sound′ .good) M;
-      by-pairs = pairs-same w v (K .sound .good) (K .sound′ .good) M;
-      by-other = extend-same w v (K .sound .good) (K .sound′ .good) M;
-      as-other = extend-by-same w v (K .sound .good) (K .sound′ .good) M;
-      by-seq = λ x opt. rw (← M .state) (kept-ts (w .state) (w .seqs) (v .seqs) (w .secs) (v .secs) x opt k);
-      by-second = λ x opt. rw (← M .state) (kept-seq (w .state) (w .seqs) (v .seqs) (w .secs) (v .secs) x opt k);
-      by-strict = λ out. rw (← M .state) (rw (K .sound .good, there, a .same-seqs, a .same-secs) (refl, refl));
-      by-save = λ out. rw (← M .state) (rw (K .sound .good, there, a .same-seqs, a .same-secs) (refl, refl));
-      restores = λ l n v h e. restores interval w (K .sound) l n e v h;
-      exact = λ l room lent. (refuses interval w (K .sound) l lent room, with-20 interval w (K .sound) l lent room, writes interval w (K .sound) l lent room);
-    }
+unharmed : (interval m : ℕ) (w v : Table) → Kept interval m w v → Unharmed m w v
+unharmed interval m w v K = record {
+  good = K .sound .good;
+  pairs = kept-same w v (K .alike);
+  state = K .alike .same-rest;
+  answers = answer-alike m w v (K .sound .good) (K .sound′ .good) (K .alike) (K .room) (K .room′);
+  restores = λ l n v h e. restores interval w (K .sound) l n e v h;
+  exact = λ l room lent. (refuses interval w (K .sound) l lent room, with-20 interval w (K .sound) l lent room, writes interval w (K .sound) l lent room);
+}
 
-goes-on : (interval : ℕ) (w : Table) → Sound interval w → GoesOn interval w
-goes-on interval w S es p =
-    let r = run-kept interval w w es p (record { sound = S; sound′ = S; same = same-self interval w S }) in
-    (r .0, unharmed interval (ranTo w es) (ranTo w (offersIn es)) (r .1))
+goes-on : (interval : ℕ) (w : Table) → Sound interval w → w .state .totals ≡ noTotals → GoesOn interval w
+goes-on interval w S zero es m p few =
+    let room : sumOf (w .state .totals) + (length (offersIn es) + m) ≤ most = rw zero (omega (arith, few)) in
+    let r = run-kept interval m w w es p (record { sound = S; sound′ = S; alike = alike-self interval w S; room = room; room′ = room }) in
+    (r .0, unharmed interval m (ranTo w es) (ranTo w (offersIn es)) (r .1))
 
 -- what `with_config` makes at capacity 8,192
 made : (interval : ℕ) (t : SequenceTracker) → configOf defaultCapacity interval ≡ gave t → (badSettings defaultCapacity interval ≡ false) × (emptyTable defaultCapacity interval ≡ t)
@@ -95,8 +92,8 @@ made-sound interval seqs secs t e lent = let m = made interval t e in rw (← m 
 
 pub demand : Demand
 demand interval = (
-  λ seqs secs t e lent. goes-on interval (whole t seqs secs) (made-sound interval seqs secs t e lent),
-  λ bytes seqs seqs′ secs secs′ t h. goes-on interval (whole t seqs′ secs′) (restored-sound interval bytes seqs seqs′ secs secs′ t h),
+  λ seqs secs t e lent. goes-on interval (whole t seqs secs) (made-sound interval seqs secs t e lent) (made-zero defaultCapacity interval t e),
+  λ bytes seqs seqs′ secs secs′ t h. goes-on interval (whole t seqs′ secs′) (restored-sound interval bytes seqs seqs′ secs secs′ t h) (restored-zero interval bytes seqs secs t (sym (h .0))),
 )
 
 pub demand-by-default : DemandByDefault
@@ -123,8 +120,8 @@ module _ (interval other : ℕ) (seqs : List ℕ) (secs : List ℤ) (valid : bad
   not-unharmed : badSettings defaultCapacity other ≡ false → (other ≡ interval → ⊥) → GoesOn other empty → ⊥
   unfolding ranTo offersIn Proper empty again
   not-unharmed v apart goes =
-      let u = goes (reloaded again ∷ []) (refl, lent, tt) .1 in
-      apart (ap (λ (s : SequenceTracker). s .«interval_secs») (sym (comes-back-other v) ∙ u .state))
+      let u = goes (reloaded again ∷ []) 0 (refl, lent, tt) (omega arith) .1 in
+      apart (ap (λ (s : SequenceTracker). s .«interval_secs») (sym (ap restOf (comes-back-other v)) ∙ u .state))
 
 pub own-interval-needed : OwnIntervalNeeded
 unfolding empty

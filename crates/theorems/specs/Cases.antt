@@ -22,7 +22,10 @@ use Rattle.tracker.specs.declared.LastRecorded.the-variants.{At}
 use Rattle.lookup.specs.Find.{Partner, partner, nothing, findTs, findSeq}
 use Rattle.lookup.specs.declared.FindOption.{FindOption}
 use Rattle.lookup.specs.declared.FindOption.the-variants.{RoundUp, RoundDown}
-use Rattle.offers.specs.Offer.{Outcome, wentBack, tooSoon, offerTo}
+use Rattle.totals.specs.declared.Totals.{Totals}
+use Rattle.totals.specs.declared.Fate.the-variants as fate
+use Rattle.tracker.specs.Rest.{withTotals}
+use Rattle.offers.specs.Offer.{Outcome, recorded, wentBack, tooSoon, pairRefused, counting, offerTo}
 use Rattle.log.specs.Log.{done, stopped, logOf}
 use Rattle.encoder.specs.Encode.{lenRule, encodeRule, strictRule}
 use Rattle.decoder.specs.Decode.{decodeRule, seqsAfter, secsAfter}
@@ -30,7 +33,8 @@ use Rattle.offers.specs.Whole.{Table}
 use Rattle.restoring.specs.Restore.{restoreOf, restoreAt}
 use Rattle.text.specs.Ascii.{ascii}
 use Rattle.report.specs.Listing.{listingOf}
-use Rattle.theorems.specs.Run.{Restoring, plain, naming, offered, reloaded, keptIn, step, ranTo}
+use Rattle.theorems.specs.Alike.{keptIn}
+use Rattle.theorems.specs.Run.{Restoring, plain, naming, offered, reloaded, step, ranTo}
 
 -- ---- what goes in
 
@@ -53,6 +57,14 @@ buffer = replicate 64 0xFF
 
 abbrev pub lent : ℕ → Pairs
 lent n = record { seqs = replicate n 7; secs = replicate n (pos 7) }
+
+-- four totals: recorded, went back, too soon, refused
+abbrev pub four : ℕ → ℕ → ℕ → ℕ → Totals
+four r b s f = record { recorded = r; «went_back» = b; «too_soon» = s; refused = f }
+
+-- a table with other totals
+abbrev pub totalled : Totals → Table → Table
+totalled n w = record { state = withTotals n (w .state); seqs = w .seqs; secs = w .secs }
 
 -- an empty table of this capacity and interval, in arrays of just the room that it needs, after these offers in order
 abbrev pub offeredAll : ℕ → ℕ → List TrackedSeq → Table
@@ -100,9 +112,16 @@ RestoreTells interval room bytes told = restoreAt interval bytes (lent room .seq
 abbrev pub Keeps : Table → List TrackedSeq → ℕ → Type 0
 Keeps w l last = (keptIn w ≡ pairsIn l) × (w .state .«last_recorded_ts» ≡ At (second last))
 
--- one more offer is skipped, for this reason
-abbrev pub Skips : Outcome → Table → TrackedSeq → Type 0
-Skips reason w r = offerTo w (r .seq) (r .ts) ≡ gave reason
+-- one more offer tells this
+abbrev pub Tells : Table → TrackedSeq → Told Outcome → Type 0
+Tells w r told = offerTo w (r .seq) (r .ts) ≡ told
+
+-- it is skipped, as it went back, or came too soon
+abbrev pub GoesBack : Table → TrackedSeq → Type 0
+GoesBack w r = Tells w r (gave (wentBack (counting fate.WentBack (w .state))))
+
+abbrev pub ComesTooSoon : Table → TrackedSeq → Type 0
+ComesTooSoon w r = Tells w r (gave (tooSoon (counting fate.TooSoon (w .state))))
 
 -- `find_ts` of a sequence
 abbrev pub Finds : Table → ℕ → FindOption → Partner Second → Type 0
@@ -158,18 +177,18 @@ pub record Cases : Type 0 where
   pub P9 :
       Keeps (offeredAll 3 0 (firstOf 4)) (pair 1 10 ∷ pair 3 30 ∷ []) 40
       × Keeps (offeredAll 3 0 (firstOf 4 ++ (pair 3 45 ∷ []))) (pair 1 10 ∷ pair 3 30 ∷ pair 3 45 ∷ []) 45
-      × Skips wentBack (offeredAll 3 0 (firstOf 4)) (pair 9 39)
+      × GoesBack (offeredAll 3 0 (firstOf 4)) (pair 9 39)
   -- capacity 0, first two: (1,10), last recorded 20
   pub P10 : Keeps (offeredAll 0 0 (firstOf 2)) (pair 1 10 ∷ []) 20
   -- interval 60 after 100: 159 too soon, 99 went back, 160 recorded
   pub P11 :
-      Skips tooSoon (offeredAll 8192 60 (pair 1 100 ∷ [])) (pair 2 159)
-      × Skips wentBack (offeredAll 8192 60 (pair 1 100 ∷ [])) (pair 2 99)
+      ComesTooSoon (offeredAll 8192 60 (pair 1 100 ∷ [])) (pair 2 159)
+      × GoesBack (offeredAll 8192 60 (pair 1 100 ∷ [])) (pair 2 99)
       × Keeps (offeredAll 8192 60 (pair 1 100 ∷ pair 2 160 ∷ [])) (pair 1 100 ∷ pair 2 160 ∷ []) 160
   -- the defaults: capacity 8,192 and interval 10; after 100: 109 too soon, 110 recorded
   pub defaults :
       (newTable ≡ emptyTable 8192 10)
-      × Skips tooSoon (offeredAll 8192 (newTable .«interval_secs») (pair 1 100 ∷ [])) (pair 2 109)
+      × ComesTooSoon (offeredAll 8192 (newTable .«interval_secs») (pair 1 100 ∷ [])) (pair 2 109)
       × Keeps (offeredAll 8192 (newTable .«interval_secs») (pair 1 100 ∷ pair 2 110 ∷ [])) (pair 1 100 ∷ pair 2 110 ∷ []) 110
   -- P5's image restored: interval 10; with an interval that is named, that one
   pub restored :
@@ -184,20 +203,35 @@ pub record Cases : Type 0 where
       × RestoreTells 9223372036854775807 8192 [] (refused (1 ∷ []))
   -- interval 60, (5,100) saved strictly and restored, then (6,110): too soon if the restore names 60; recorded if it is `restore`, by which the interval became 10
   pub own-interval :
-      Skips tooSoon (offeredAndReloaded 60 (pair 5 100) (naming 60)) (pair 6 110)
+      ComesTooSoon (offeredAndReloaded 60 (pair 5 100) (naming 60)) (pair 6 110)
       × Keeps (step (offeredAndReloaded 60 (pair 5 100) plain) (offered (seqNo 6) (second 110))) (pair 5 100 ∷ pair 6 110 ∷ []) 110
   -- the second equal to the last recorded one: too soon at interval 1, recorded at 0
   pub again :
-      Skips tooSoon (offeredAll 4 1 (pair 1 100 ∷ [])) (pair 2 100)
+      ComesTooSoon (offeredAll 4 1 (pair 1 100 ∷ [])) (pair 2 100)
       × Keeps (offeredAll 4 0 (pair 1 100 ∷ pair 2 100 ∷ [])) (pair 1 100 ∷ pair 2 100 ∷ []) 100
-  -- offered in order up to the first refusal: (4,160) after (5,100), recorded, and (6,159), too soon, is refused with 17 at position 2
+  -- offered in order up to the first refusal: (4,160) after (5,100), recorded, and (6,159), too soon, is refused with 17 at position 2, and this is counted
   pub log :
       logOf (offeredAll 4 60 []) (pair 5 100 ∷ pair 6 159 ∷ pair 4 160 ∷ pair 6 170 ∷ []) .answer
-      ≡ gave (stopped (17 ∷ 2 ∷ []) (freshTable 4 60 1 (At (second 100))) (record { recorded = 1; «went_back» = 0; «too_soon» = 1 }))
+      ≡ gave (stopped (17 ∷ 2 ∷ []) (withTotals (four 1 0 1 1) (freshTable 4 60 1 (At (second 100)))) (record { recorded = 1; «went_back» = 0; «too_soon» = 1 }))
   -- counted apart: (5,100) and (6,160), recorded, (6,159), too soon, and (6,99), (4,98), (7,0), went back
   pub tally :
       logOf (offeredAll 4 60 []) (pair 5 100 ∷ pair 6 99 ∷ pair 6 159 ∷ pair 4 98 ∷ pair 6 160 ∷ pair 7 0 ∷ []) .answer
-      ≡ gave (done (freshTable 4 60 2 (At (second 160))) (record { recorded = 2; «went_back» = 3; «too_soon» = 1 }))
+      ≡ gave (done (withTotals (four 2 3 1 0) (freshTable 4 60 2 (At (second 160)))) (record { recorded = 2; «went_back» = 3; «too_soon» = 1 }))
+  -- the totals: after (5,100), recorded, (6,99), went back, and (6,159), too soon, they are 1, 1, 1, 0; (4,160) is refused with 17 and a second out of domain with 16, and each changes the fourth alone
+  pub totals :
+      (offeredAll 4 60 (pair 5 100 ∷ pair 6 99 ∷ pair 6 159 ∷ []) .state ≡ withTotals (four 1 1 1 0) (freshTable 4 60 1 (At (second 100))))
+      × Tells (offeredAll 4 60 (pair 5 100 ∷ [])) (pair 4 160) (gave (pairRefused (17 ∷ []) (withTotals (four 1 0 0 1) (freshTable 4 60 1 (At (second 100))))))
+      × Tells (offeredAll 4 60 (pair 5 100 ∷ [])) (pair 6 253402300800) (gave (pairRefused (16 ∷ []) (withTotals (four 1 0 0 1) (freshTable 4 60 1 (At (second 100))))))
+  -- they may come to 2^64-1: one offer less, and the next is counted; then it is 31, before 16; 2^64 is 14, before 31
+  pub totals-full :
+      Tells (totalled (four 0 0 0 18446744073709551614) (offeredAll 4 60 [])) (pair 5 100) (gave (recorded (withTotals (four 1 0 0 18446744073709551614) (freshTable 4 60 1 (At (second 100))))))
+      × Tells (totalled (four 18446744073709551615 0 0 0) (offeredAll 4 60 [])) (pair 5 100) (refused (31 ∷ []))
+      × Tells (totalled (four 0 9223372036854775807 0 9223372036854775808) (offeredAll 4 60 [])) (pair 5 253402300800) (refused (31 ∷ []))
+      × Tells (totalled (four 18446744073709551615 0 1 0) (offeredAll 4 60 [])) (pair 5 100) (refused (14 ∷ []))
+  -- a list that fills them: (5,100) is counted, and (6,160), at position 1, is refused with 31; the state is as the offers before left it
+  pub totals-full-in-list :
+      logOf (totalled (four 0 0 18446744073709551614 0) (offeredAll 4 60 [])) (pair 5 100 ∷ pair 6 160 ∷ []) .answer
+      ≡ gave (stopped (31 ∷ 1 ∷ []) (withTotals (four 1 0 18446744073709551614 0) (freshTable 4 60 1 (At (second 100)))) (record { recorded = 1; «went_back» = 0; «too_soon» = 0 }))
   -- in P8's table sequence 2: up 30, down 10; 6 up and 0 down: nothing
   pub P12 :
       Finds (offeredAll 4 0 (firstOf 5)) 2 RoundUp (partner (second 30))

@@ -1,3 +1,5 @@
+pub mod Alike
 pub mod Run
 pub mod Lists
+pub mod Totals
 pub mod Cases

@@ -1,6 +1,6 @@
--- A list of offers leaves what the records that it counted leave when they are offered one by one, and counts what these are told: so the third demand, whose
+-- A list of offers leaves what the records that it offered leave when they are offered one by one, and counts what these are told: so the third demand, whose
 -- runs have single offers, is of tables that lists made too.
-use Prim.Native.Nat.{ℕ}
+use Prim.Native.Nat.{ℕ, _+_}
 use mathlib.Core.Path.{_≡_}
 use mathlib.Core.List.{List, [], _∷_, map}
 use lib.ListN.{take}
@@ -13,7 +13,8 @@ use Rattle.tallies.specs.declared.Tally.{Tally}
 use Rattle.tallies.specs.Tally.{noneYet, counted, total}
 use Rattle.log.specs.Log.{Log, done, stopped, logOf}
 use Rattle.log.specs.Pairs.{recordsOf, pairsLogOf, extendOf}
-use Rattle.theorems.specs.Run.{Event, offered, ranTo, answers, keptIn}
+use Rattle.theorems.specs.Alike.{keptIn}
+use Rattle.theorems.specs.Run.{Event, offered, ranTo, answers}
 
 -- records as offers one by one
 abbrev pub offersOf : List TrackedSeq → List Event
@@ -30,13 +31,15 @@ unfoldable pub tallied : List (Told Outcome) → Tally
 tallied [] = noneYet
 tallied (o ∷ os) = counted o (tallied os)
 
--- the records that a list counted: all of them, or those before the refused one
-abbrev pub countedOf : List TrackedSeq → Told Log → List Event
-countedOf rs told = offersOf (take (total (tallyIn told)) rs)
+-- the records that a list offered: all of them; those up to the refused one, and that one; none, where it was refused before the first
+abbrev pub triedOf : List TrackedSeq → Told Log → List Event
+triedOf rs (gave (done t n)) = offersOf rs
+triedOf rs (gave (stopped what t n)) = offersOf (take (total n + 1) rs)
+triedOf rs (refused what) = []
 
--- offered one by one they leave the same table, and the list's numbers are those of their answers
+-- offered one by one they leave the same table, totals and all, and the list's numbers are those of their answers
 abbrev pub OneByOne : Table → List TrackedSeq → Left (Told Log) → Type 0
-OneByOne w rs l = (l .table ≡ ranTo w (countedOf rs (l .answer))) × (tallyIn (l .answer) ≡ tallied (answers w (countedOf rs (l .answer))))
+OneByOne w rs l = (l .table ≡ ranTo w (triedOf rs (l .answer))) × (tallyIn (l .answer) ≡ tallied (answers w (triedOf rs (l .answer))))
 
 -- of a list of records, of two lists, and of another table's pairs
 abbrev pub ListsAreOffers : Type 0

@@ -1,10 +1,10 @@
--- The third demand: offers to a table of capacity 8,192 and any valid interval, new or restored from any bytes, with strict saves and restores at that interval between them, go as the offers
--- alone would. At the default settings `restore` is such a restore.
-use Prim.Native.Nat.{ℕ, _≤_, _<_, _^_}
+-- The third demand: fewer than 2^64 offers to a table of capacity 8,192 and any valid interval, new or restored from any bytes, with strict saves and restores at that interval between them, go as the offers
+-- alone would, but for the totals. At the default settings `restore` is such a restore.
+use Prim.Native.Nat.{ℕ, _+_, _≤_, _<_, _^_}
 use mathlib.Core.Path.{_≡_}
 use mathlib.Core.Bool.{false}
 use mathlib.Core.Logic.{_↔_}
-use mathlib.Core.List.{List, [], _∷_, _++_}
+use mathlib.Core.List.{List, [], _∷_, _++_, map}
 use lib.ListN.{length, take, getD}
 use lib.IntN.{ℤ}
 use Rattle.told.specs.Told.{Told, gave, refused}
@@ -14,30 +14,22 @@ use Rattle.gorilla.specs.Parser.{Read, read}
 use Rattle.gorilla.specs.Reading.{Pairs, pairsRead}
 use Rattle.limits.specs.Settings.{badSettings}
 use Rattle.fresh.specs.Fresh.{defaultCapacity, defaultIntervalSecs, newTable, configOf}
-use Rattle.tracker.specs.Table.{kept}
+use Rattle.tracker.specs.Rest.{restOf}
 use Rattle.tracker.specs.declared.Seq.{Seq}
 use Rattle.tracker.specs.declared.Second.{Second}
-use Rattle.tracker.specs.declared.TrackedSeq.{TrackedSeq}
 use Rattle.tracker.specs.declared.SequenceTracker.{SequenceTracker}
-use Rattle.lookup.specs.Find.{findTs, findSeq}
-use Rattle.lookup.specs.declared.FindOption.{FindOption}
-use Rattle.offers.specs.Whole.{Table, whole, checkIn, Left}
+use Rattle.offers.specs.Whole.{Table, whole, checkIn}
 use Rattle.offers.specs.Offer.{Outcome, offerTo, offeredTo}
-use Rattle.log.specs.Log.{Log, logOf}
-use Rattle.log.specs.Pairs.{pairsLogOf, extendOf}
+use Rattle.offers.specs.Rest.{offerRest}
 use Rattle.decoder.specs.Decode.{listed}
-use Rattle.saving.specs.Save.{saveStrictOf, saveOf, keptImage}
 use Rattle.restoring.specs.Restore.{readTable, restoreOf, restoreAt, Restores, RestoresAt}
 use Rattle.restoring.specs.Interval.{withInterval}
 use Rattle.restoring.specs.declared.Restored.the-variants as restored
+use Rattle.theorems.specs.Alike.{keptIn, strictTo, saveTo, imageFor, AnswerAlike}
 
 -- as `new` makes it, in two arrays that hold what they hold
 abbrev pub new : List ℕ → List ℤ → Table
 new seqs secs = whole newTable seqs secs
-
--- the pairs that a table keeps
-abbrev pub keptIn : Table → Pairs
-keptIn w = record { seqs = kept (w .state) (w .seqs); secs = kept (w .state) (w .secs) }
 
 -- ---- a strict save, and a restore of what it wrote
 
@@ -63,17 +55,6 @@ pub record Reload : Type 0 where
   pub following : List ℕ
   pub seqs : List ℕ
   pub secs : List ℤ
-
--- what `save_strict` tells, and what `save`, which is the Rust's, tells
-abbrev pub strictTo : Table → List ℕ → Told ℕ
-strictTo w out = saveStrictOf (w .state) (w .seqs) (w .secs) (length out)
-
-abbrev pub saveTo : Table → List ℕ → Told ℕ
-saveTo w out = saveOf (w .state) (w .seqs) (w .secs) (length out)
-
--- the image of the kept pairs, which a save writes
-abbrev pub imageFor : Table → List ℕ
-imageFor w = keptImage (w .state) (w .seqs) (w .secs)
 
 -- the bytes written to a buffer: as many as are told
 abbrev pub bytesWritten : Told ℕ → List ℕ → List ℕ
@@ -136,12 +117,6 @@ Proper interval [] = Unit {0}
 Proper interval (offered seq ts ∷ es) = (seq .0 < 2 ^ 64) × Proper interval es
 Proper interval (reloaded l ∷ es) = (intervalBy (l .by) ≡ interval) × Lent (l .seqs) (l .secs) × Proper interval es
 
--- ---- a list of offers
-
--- two tables are told the same, and keep the same pairs afterwards
-abbrev pub SameLog : Left (Told Log) → Left (Told Log) → Type 0
-SameLog l m = (l .answer ≡ m .answer) × (keptIn (l .table) ≡ keptIn (m .table))
-
 -- ---- when a strict save is refused
 
 -- what the list reader reads of what the Rust's save wrote
@@ -154,25 +129,17 @@ ReadsOthers w l = (p : Pairs) × (listedFor w l ≡ read p (bitsOf (l .following
 
 -- ---- the demand
 
--- what is claimed of the table w that a run leads to, beside the table v that the offers alone lead to
-pub record Unharmed (w v : Table) : Type 0 where
+-- what is claimed of the table w that a run leads to, beside the table v that the offers alone lead to, where m more offers may come
+pub record Unharmed (m : ℕ) (w v : Table) : Type 0 where
   -- the table is good
   pub good : checkIn w ≡ gave tt
-  -- the kept pairs, and the state, with the last recorded second in it
+  -- the kept pairs, and the state but for its totals, with the last recorded second in it
   pub pairs : keptIn w ≡ keptIn v
-  pub state : w .state ≡ v .state
-  -- each list of offers, as records and as two lists; each other table's pairs, and each other table that takes the pairs of this one
-  pub by-log : (rs : List TrackedSeq) → SameLog (logOf w rs) (logOf v rs)
-  pub by-pairs : (qs : List ℕ) (ss : List ℤ) → SameLog (pairsLogOf w qs ss) (pairsLogOf v qs ss)
-  pub by-other : (other : Table) → SameLog (extendOf w other) (extendOf v other)
-  pub as-other : (other : Table) → extendOf other w ≡ extendOf other v
-  -- each lookup
-  pub by-seq : (x : Seq) (opt : FindOption) → findTs (w .state) (w .seqs) (w .secs) x opt ≡ findTs (v .state) (v .seqs) (v .secs) x opt
-  pub by-second : (x : Second) (opt : FindOption) → findSeq (w .state) (w .seqs) (w .secs) x opt ≡ findSeq (v .state) (v .seqs) (v .secs) x opt
-  -- each save, strict or not, and the buffer after it
-  pub by-strict : (out : List ℕ) → (strictTo w out ≡ strictTo v out) × (filled (strictTo w out) (imageFor w) out ≡ filled (strictTo v out) (imageFor v) out)
-  pub by-save : (out : List ℕ) → (saveTo w out ≡ saveTo v out) × (filled (saveTo w out) (imageFor w) out ≡ filled (saveTo v out) (imageFor v) out)
-  -- a restore at a valid interval never refuses what a strict save wrote: it gives back the pairs, and the state with that interval in it, so at the table's own the same state
+  pub state : restOf (w .state) ≡ restOf (v .state)
+  -- each later answer: offers and lists of offers, lookups, saves
+  pub answers : AnswerAlike m w v
+  -- a restore at a valid interval never refuses what a strict save wrote: it gives back the pairs, and the state with that interval in it and its totals at zero, so at the table's own
+  -- interval the same state but for the totals
   pub restores : (l : Reload) (n : ℕ) → badSettings defaultCapacity (intervalBy (l .by)) ≡ false → Lent (l .seqs) (l .secs) → strictTo w (l .out) ≡ gave n
       → (restoreTo w l ≡ gave (withInterval (intervalBy (l .by)) (w .state))) × (keptIn (step w (reloaded l)) ≡ keptIn w)
   -- with room for the image a strict save is refused at all exactly where what the Rust's save wrote reads back as other pairs, and then
@@ -182,9 +149,11 @@ pub record Unharmed (w v : Table) : Type 0 where
       × ((what : List ℕ) → strictTo w (l .out) ≡ refused what → getD what 0 0 ≡ 20)
       × ((strictTo w (l .out) ≡ gave (length (imageFor w))) ↔ (listedFor w l ≡ read (keptIn w) (bitsOf (l .following))))
 
--- by any events from the table w on, with restores at this interval: each offer is told what it is told without the saves and restores, and the table is unharmed
+-- by any events from the table w on, with restores at this interval, and with m more offers to come, in all fewer than 2^64: but for the totals, each offer is told what it is told
+-- without the saves and restores, and the table is unharmed
 abbrev pub GoesOn : ℕ → Table → Type 0
-GoesOn interval w = (es : List Event) → Proper interval es → (answers w es ≡ answers w (offersIn es)) × Unharmed (ranTo w es) (ranTo w (offersIn es))
+GoesOn interval w = (es : List Event) (m : ℕ) → Proper interval es → length (offersIn es) + m < 2 ^ 64
+    → (map offerRest (answers w es) ≡ map offerRest (answers w (offersIn es))) × Unharmed m (ranTo w es) (ranTo w (offersIn es))
 
 -- at capacity 8,192 and every interval that the calls take: from the table that `with_config` makes, with the state t, in any two arrays of at least 8,192 places; and
 -- from each table that `restore_with_interval` leaves, with the state t that it gives: of any bytes that it accepts, whoever wrote them

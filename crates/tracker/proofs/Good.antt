@@ -14,6 +14,7 @@ use lib.Signed.{ltZ}
 use Rattle.told.specs.Told.{gave}
 use Rattle.limits.specs.Domain.{outside}
 use Rattle.limits.specs.Settings.{roomOf}
+use Rattle.totals.specs.Totals.{sumOf, most, tooMany}
 use Rattle.order.specs.First.{first}
 use Rattle.order.specs.Order.{drops, secOutside}
 use Rattle.order.specs.Inner.{NoneBelow}
@@ -51,6 +52,7 @@ pub record Agreed (table : SequenceTracker) (seqs : List ℕ) (secs : List ℤ) 
   pub last-placed : lastMisplaced (table .«last_recorded_ts») (table .count) ≡ false
   pub last-inside : lastOutside (table .«last_recorded_ts») ≡ false
   pub last-above : lastBelow (table .«last_recorded_ts») secs (table .count) ≡ false
+  pub totals-fit : sumOf (table .totals) ≤ most
 
 -- the last recorded second is not wrong: each part of the rule
 last-parts : (l : LastRecorded) (secs : List ℤ) (n : ℕ) → lastWrong l secs n ≡ false → (lastMisplaced l n ≡ false) × (lastOutside l ≡ false) × (lastBelow l secs n ≡ false)
@@ -74,7 +76,9 @@ module _ (table : SequenceTracker) (seqs : List ℕ) (secs : List ℤ) where
       let b = ltb (length seqs) room in
       let c = ltb (length secs) room in
       let d = ltb room (table .count) in
-      let he = neither (a0 || a1 || b || c || d) (lastWrong last secs (table .count)) h in
+      let e = lastWrong last secs (table .count) in
+      let hf = neither (a0 || a1 || b || c || d || e) (tooMany (table .totals)) h in
+      let he = neither (a0 || a1 || b || c || d) e (hf .0) in
       let parts = last-parts last secs (table .count) (he .1) in
       let hd = neither (a0 || a1 || b || c) d (he .0) in
       let hc = neither (a0 || a1 || b) c (hd .0) in
@@ -89,12 +93,13 @@ module _ (table : SequenceTracker) (seqs : List ℕ) (secs : List ℤ) where
         last-placed = parts .0;
         last-inside = parts .1;
         last-above = parts .2;
+        totals-fit = ltb-false most (sumOf (table .totals)) (hf .1);
       }
 
   pub agreed-again : Agreed table seqs secs → disagrees table seqs secs ≡ false
   agreed-again a =
       let room = roomOf (table .capacity) in
-      rw (le-ltb 8192 (table .capacity) (a .capacity-ok), le-ltb 9223372036854775807 (table .«interval_secs») (a .interval-ok), le-ltb (length seqs) room (a .fit-seqs), le-ltb (length secs) room (a .fit-secs), le-ltb room (table .count) (a .count-room)) (last-right (table .«last_recorded_ts») secs (table .count) (a .last-placed) (a .last-inside) (a .last-above))
+      rw (le-ltb 8192 (table .capacity) (a .capacity-ok), le-ltb 9223372036854775807 (table .«interval_secs») (a .interval-ok), le-ltb (length seqs) room (a .fit-seqs), le-ltb (length secs) room (a .fit-secs), le-ltb room (table .count) (a .count-room), last-right (table .«last_recorded_ts») secs (table .count) (a .last-placed) (a .last-inside) (a .last-above)) (le-ltb most (sumOf (table .totals)) (a .totals-fit))
 
   module _ (a : Agreed table seqs secs) where
     pub few : table .count ≤ 8192

@@ -1,4 +1,5 @@
 -- Laws that belong to no one function.
 pub mod Good
+pub mod Rest
 pub mod Kept
 pub mod Unique

@@ -1,4 +1,5 @@
 pub mod Refusal
 pub mod Table
+pub mod Rest
 pub mod Laws
 pub mod Inner

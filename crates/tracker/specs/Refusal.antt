@@ -3,7 +3,7 @@ use Prim.Native.Nat.{ℕ}
 use mathlib.Core.List.{List, [], _∷_}
 use Rattle.told.specs.Told.{Told, gave, refused}
 use Rattle.tracker.specs.declared.Refusal.{Refusal}
-use Rattle.tracker.specs.declared.Refusal.the-variants.{Disagrees, SequenceDrops, SecondDrops, SecondOutside, Settings, OfferedOutside, OfferedDrops}
+use Rattle.tracker.specs.declared.Refusal.the-variants.{Disagrees, SequenceDrops, SecondDrops, SecondOutside, Settings, OfferedOutside, OfferedDrops, TotalsFull}
 use Rattle.tracker.specs.declared.Checked.{Checked}
 use Rattle.tracker.specs.declared.Checked.the-variants as checked
 use Rattle.tracker.specs.declared.Made.{Made}
@@ -18,6 +18,7 @@ told Disagrees = 14 ∷ []
 told Settings = 15 ∷ []
 told OfferedOutside = 16 ∷ []
 told OfferedDrops = 17 ∷ []
+told TotalsFull = 31 ∷ []
 
 -- what a check tells
 abbrev pub toldCheck : Checked → Told (Unit {0})

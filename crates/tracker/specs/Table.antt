@@ -9,6 +9,7 @@ use lib.Signed.{ltZ}
 use Rattle.told.specs.Told.{Told, gave, refused}
 use Rattle.limits.specs.Domain.{outside}
 use Rattle.limits.specs.Settings.{badSettings, roomOf}
+use Rattle.totals.specs.Totals.{tooMany}
 use Rattle.order.specs.First.{first}
 use Rattle.order.specs.Order.{drops, secOutside}
 use Rattle.tracker.specs.declared.SequenceTracker.{SequenceTracker}
@@ -25,7 +26,8 @@ lastWrong Never secs count = not (eqb count 0)
 lastWrong (At s) secs count = eqb count 0 || outside (s .0) || ltZ (s .0) (getD secs (count - 1) (pos 0))
 
 -- 14: settings invalid; an array shorter than the room needed; count above that room;
--- a last recorded second present with count 0 or absent otherwise; or one out of domain or below the last kept second
+-- a last recorded second present with count 0 or absent otherwise; one out of domain or below the last kept second;
+-- or totals that do not add up within 64 bits
 abbrev pub disagrees : SequenceTracker → List ℕ → List ℤ → Bool
 disagrees table seqs secs =
     badSettings (table .capacity) (table .«interval_secs»)
@@ -33,6 +35,7 @@ disagrees table seqs secs =
     || ltb (length secs) (roomOf (table .capacity))
     || ltb (roomOf (table .capacity)) (table .count)
     || lastWrong (table .«last_recorded_ts») secs (table .count)
+    || tooMany (table .totals)
 
 -- a rule is broken at i, where i is below n
 abbrev pub brokenAt : ℕ → ℕ → ℕ → Told (Unit {0}) → Told (Unit {0})

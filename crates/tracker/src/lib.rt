@@ -3,6 +3,7 @@
 ghost use mathlib.Core.Path.{_≡_};
 ghost use Rattle.tracker.specs.Refusal.{toldCheck};
 ghost use Rattle.tracker.specs.Table.{checkOf};
+use totals::Totals;
 
 pub mod inner;
 mod state;
@@ -27,6 +28,7 @@ pub struct SequenceTracker {
     pub capacity: u32,
     pub interval_secs: u64,
     pub last_recorded_ts: LastRecorded,
+    pub totals: Totals,
 }
 
 // Why a call on a table refuses; an index is a position among the kept pairs.
@@ -38,6 +40,7 @@ pub enum Refusal {
     Settings,
     OfferedOutside,
     OfferedDrops,
+    TotalsFull,
 }
 
 pub enum Checked {

@@ -43,5 +43,9 @@ pub(crate) fn disagrees(table: SequenceTracker, seqs: &[u64], secs: &[i64]) -> b
         return true;
     }
     let last = table.last_recorded_ts;
-    last_wrong(last, secs, n)
+    if last_wrong(last, secs, n) {
+        return true;
+    }
+    let totals = table.totals;
+    totals::inner::too_many(totals)
 }

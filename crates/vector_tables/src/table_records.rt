@@ -2,8 +2,10 @@
 use log::Logged;
 use offers::Offered;
 use restoring::Restored;
+use std::num::wrapping_add_u64 as plus;
 use std::num::wrapping_add_usize as after;
 use tallies::Tally;
+use totals::Totals;
 use tracker::LastRecorded;
 use tracker::Made;
 use tracker::Refusal;
@@ -47,6 +49,7 @@ fn number_of(why: Refusal) -> usize {
         Refusal::Settings => 15,
         Refusal::OfferedOutside => 16,
         Refusal::OfferedDrops => 17,
+        Refusal::TotalsFull => 31,
     }
 }
 
@@ -76,25 +79,40 @@ pub fn made(b: &[u8], table: SequenceTracker) -> Changed {
     }
 }
 
+// Whether the totals grew by these counts, and that of refused offers by one where a record was refused: slatedb has no totals, so
+// they are held to what it answered.
+fn grew_so(before: Totals, now: Totals, told: Tally, refused: usize) -> bool {
+    let one = if refused == 0 { 0 } else { 1 };
+    let recorded = now.recorded == plus(before.recorded, told.recorded as u64);
+    let back = now.went_back == plus(before.went_back, told.went_back as u64);
+    let soon = now.too_soon == plus(before.too_soon, told.too_soon as u64);
+    recorded & back & soon & (now.refused == plus(before.refused, one))
+}
+
+// The table after one offer, of which a record tells this outcome: 0 recorded, 1 went back, 2 too soon, else the number of a refusal.
+fn one_so(before: Totals, table: SequenceTracker, outcome: usize, met: usize) -> Changed {
+    let told = Tally {
+        recorded: (outcome == 0) as usize,
+        went_back: (outcome == 1) as usize,
+        too_soon: (outcome == 2) as usize,
+    };
+    let refused = if outcome > 2 { outcome } else { 0 };
+    let totals = grew_so(before, table.totals, told, refused);
+    Changed {
+        table: table,
+        agreed: totals & (outcome == met),
+    }
+}
+
 pub fn offered(b: &[u8], table: SequenceTracker, seqs: &mut [u64], secs: &mut [i64]) -> Changed {
     let outcome = u8_at(b, 16);
+    let before = table.totals;
     match offers::offer(table, seqs, secs, Seq(u64_at(b, 0)), Second(i64_at(b, 8))) {
-        Offered::Recorded(next) => Changed {
-            table: next,
-            agreed: outcome == 0,
-        },
-        Offered::WentBack => Changed {
-            table: table,
-            agreed: outcome == 1,
-        },
-        Offered::TooSoon => Changed {
-            table: table,
-            agreed: outcome == 2,
-        },
-        Offered::Refused(why) => Changed {
-            table: table,
-            agreed: outcome == number_of(why),
-        },
+        Offered::Recorded(next) => one_so(before, next, outcome, 0),
+        Offered::WentBack(next) => one_so(before, next, outcome, 1),
+        Offered::TooSoon(next) => one_so(before, next, outcome, 2),
+        Offered::PairRefused { why, table } => one_so(before, table, outcome, number_of(why)),
+        Offered::Refused(_) => one_so(before, table, outcome, UNEXPECTED),
     }
 }
 
@@ -103,10 +121,10 @@ fn counted_so(tally: Tally, told: Tally) -> bool {
     (tally.recorded == told.recorded) & skipped
 }
 
-// A list's outcome against the counts and the refusal of a record.
-fn ran_so(ran: Ran, told: Tally, refused: usize) -> Changed {
+// A list's outcome against the counts and the refusal of a record; before it the table had these totals.
+fn ran_so(before: Totals, ran: Ran, told: Tally, refused: usize) -> Changed {
     let table = ran.table;
-    let counts = counted_so(ran.tally, told);
+    let counts = counted_so(ran.tally, told) & grew_so(before, table.totals, told, refused);
     Changed {
         table: table,
         agreed: counts & (ran.refused == refused),
@@ -159,7 +177,7 @@ pub fn run(b: &[u8], table: SequenceTracker, seqs: &mut [u64], secs: &mut [i64])
         went_back: u32_at(b, 64),
         too_soon: u32_at(b, 68),
     };
-    ran_so(logged_of(logged, table), told, u8_at(b, 72))
+    ran_so(table.totals, logged_of(logged, table), told, u8_at(b, 72))
 }
 
 // The last of n seconds, if any.
@@ -184,6 +202,7 @@ pub fn extended(b: &[u8], table: SequenceTracker, seqs: &mut [u64], secs: &mut [
         capacity: u32_at(b, 0) as u32,
         interval_secs: u64_at(b, 4),
         last_recorded_ts: last,
+        totals: totals::inner::no_totals(),
     };
     let answer = log_pairs::extend_from(table, seqs, secs, other, &from_seqs, &from_secs);
     let at = 13 + 16 * n;
@@ -192,7 +211,18 @@ pub fn extended(b: &[u8], table: SequenceTracker, seqs: &mut [u64], secs: &mut [
         went_back: u16_at(b, after(at, 2)),
         too_soon: u16_at(b, after(at, 4)),
     };
-    ran_so(logged_of(answer, table), told, u8_at(b, after(at, 6)))
+    ran_so(
+        table.totals,
+        logged_of(answer, table),
+        told,
+        u8_at(b, after(at, 6)),
+    )
+}
+
+// Whether no offer is counted yet.
+fn none_counted(totals: Totals) -> bool {
+    let skipped = (totals.went_back == 0) & (totals.too_soon == 0);
+    (totals.recorded == 0) & skipped & (totals.refused == 0)
 }
 
 // Whether a table has the settings of a record R, beside what restore answered.
@@ -209,7 +239,7 @@ pub fn restored(b: &[u8], table: SequenceTracker, seqs: &mut [u64], secs: &mut [
     let code = u16_at(b, 0);
     let image = part(b, 22, b.len());
     match restoring::restore_with_interval(image, seqs, secs, SLATEDB_INTERVAL_SECS) {
-        Restored::Table(next) => restored_so(b, next, code == 0),
+        Restored::Table(next) => restored_so(b, next, (code == 0) & none_counted(next.totals)),
         Restored::Refused(why) => restored_so(b, table, code == number_of(why)),
         Restored::NotDecoded(why) => restored_so(b, table, refused_so(why, code, b, 14)),
     }

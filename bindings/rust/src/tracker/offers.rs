@@ -1,10 +1,11 @@
 //! Offers, one by one and in lists.
 use super::SequenceTracker;
-use crate::calls::{self, done};
+use crate::calls;
 use crate::sys::{self, TableAnswer};
 use crate::{Error, ListError, Tally, TrackedSeq};
 
-/// What came of an offered pair. It is recorded, or it is skipped, for one of two reasons; skipped, it leaves the table as it was.
+/// What came of an offered pair. It is recorded, or it is skipped, for one of two reasons; skipped, it leaves the table as it was, but that it is counted:
+/// [`SequenceTracker::totals`].
 ///
 /// The last recorded second decides, [`SequenceTracker::last_recorded`]. Its pair need not be kept any more, so that a pair may have gone back whose second is above
 /// all that are kept. Before a second was recorded no pair is skipped.
@@ -34,7 +35,8 @@ impl Inserted {
 
 impl SequenceTracker {
     /// Offers a pair. It is refused where its second is outside the years 0001 to 9999 (16), and where it is not skipped and its sequence is below the last
-    /// kept one (17), at which slatedb panics.
+    /// kept one (17), at which slatedb panics. Both are counted, [`SequenceTracker::totals`], and else the table is as it was, and goes on. Before them comes
+    /// the refusal of an offer that cannot be counted, as 2^64-1 are (31).
     ///
     /// ```no_run
     /// # use skutlaneb::{Inserted, SequenceTracker, TrackedSeq};
@@ -49,12 +51,15 @@ impl SequenceTracker {
     /// ```
     pub fn insert(&mut self, pair: TrackedSeq) -> Result<Inserted, Error> {
         let answer = calls::offer(self.state, &mut self.seqs, &mut self.secs, pair.seq.0, pair.ts.0);
-        done(answer.answer)?;
-        self.state = answer.state;
-        Ok(Inserted::of(&answer.tally))
+        let refused = Error::of(&answer.answer);
+        // With 16 and 17 comes the state that counts the refusal; with the others none.
+        if matches!(refused, None | Some(Error::OfferedOutside | Error::OfferedDrops)) {
+            self.state = answer.state;
+        }
+        refused.map_or(Ok(Inserted::of(&answer.tally)), Err)
     }
 
-    /// Offers pairs in order, up to the first that is refused (16, 17); those before it are kept. The table is checked once, which makes this faster than
+    /// Offers pairs in order, up to the first that is refused (16, 17, 31); those before it are kept. The table is checked once, which makes this faster than
     /// [`SequenceTracker::insert`] for each.
     ///
     /// There is neither an `Extend` nor a `FromIterator` of pairs: neither can tell that a pair was refused, and where.
@@ -65,13 +70,13 @@ impl SequenceTracker {
         self.listed(answer)
     }
 
-    /// Offers the pairs that another table keeps, in order, up to the first that is refused.
+    /// Offers the pairs that another table keeps, in order, up to the first that is refused (17, 31).
     pub fn extend_from(&mut self, other: &SequenceTracker) -> Result<Tally, ListError> {
         let answer = calls::extend_from(self.state, &mut self.seqs, &mut self.secs, other.state, (&other.seqs, &other.secs));
         self.listed(answer)
     }
 
-    /// What came of a list. Only a refusal of a record (16, 17) comes with a state.
+    /// What came of a list. Only a refusal of a record (16, 17, 31) comes with a state.
     fn listed(&mut self, answer: TableAnswer) -> Result<Tally, ListError> {
         let tally = Tally::from(answer.tally);
         let told = answer.answer;
@@ -80,7 +85,7 @@ impl SequenceTracker {
                 self.state = answer.state;
                 Ok(tally)
             }
-            Some(why @ (Error::OfferedOutside | Error::OfferedDrops)) => {
+            Some(why @ (Error::OfferedOutside | Error::OfferedDrops | Error::TotalsFull)) => {
                 self.state = answer.state;
                 Err(ListError::Stopped { at: told.a, why, before: tally })
             }

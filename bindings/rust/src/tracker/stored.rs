@@ -32,8 +32,8 @@ impl SequenceTracker {
     ///
     /// The image has the pairs and nothing else. The settings and the last recorded second come back, too, if the capacity is 8,192, if the table was made by
     /// [`SequenceTracker::new`], [`SequenceTracker::with_config`] or the reading of bytes and by offers alone, if nobody changes the bytes, and if
-    /// [`SequenceTracker::from_bytes_with_interval`] names the table's interval, or that is 10 and [`SequenceTracker::from_bytes`] reads them. At another
-    /// capacity that one does not come back, and the last recorded second need not:
+    /// [`SequenceTracker::from_bytes_with_interval`] names the table's interval, or that is 10 and [`SequenceTracker::from_bytes`] reads them. The totals come
+    /// back as 0. At another capacity that one does not come back, and the last recorded second need not:
     ///
     /// ```no_run
     /// # use skutlaneb::{Second, SequenceTracker, TrackedSeq};
@@ -55,9 +55,9 @@ impl SequenceTracker {
         Ok(out)
     }
 
-    /// The table of an image, of capacity 8,192 and interval 10; its last recorded second is the last one kept. Refused by 1 to 13; by 10 where it
-    /// has more than 8,192 pairs. 4 to 8 tell where the bytes stop: [`Error::place`]. Bytes after the image are ignored. Needs 130 KB of stack. The interval
-    /// that slatedb's `from_bytes` gives is 60: [`SequenceTracker::from_bytes_with_interval`] takes it.
+    /// The table of an image, of capacity 8,192 and interval 10; its last recorded second is the last one kept, and its totals are 0. Refused by 1 to 13; by 10
+    /// where it has more than 8,192 pairs. 4 to 8 tell where the bytes stop: [`Error::place`]. Bytes after the image are ignored. Needs 130 KB of stack. The
+    /// interval that slatedb's `from_bytes` gives is 60: [`SequenceTracker::from_bytes_with_interval`] takes it.
     ///
     /// The image has no checksum. Bytes that were changed in storage are refused, or read as the table of which they are the image:
     ///

@@ -1,12 +1,12 @@
 //! What the docs claim of storage and of cost, and where the claims end.
 use crate::run::Case;
-use crate::tables::{kept, pair, table};
+use crate::tables::{but_totals, kept, pair, table};
 use skutlaneb::FindOption::{RoundDown, RoundUp};
 use skutlaneb::Inserted::{Recorded, TooSoon, WentBack};
-use skutlaneb::{sys, Error, Second, Seq, SequenceTracker, TrackedSeq};
+use skutlaneb::{sys, Error, Second, Seq, SequenceTracker, Totals, TrackedSeq};
 
 pub const CASES: &[Case] = &[
-    ("at the default settings a strictly saved table comes back as it was, also once it has dropped pairs", comes_back),
+    ("at the default settings a strictly saved table comes back as it was but for its totals, also once it has dropped pairs", comes_back),
     ("at any interval it does where the restore names the table's own", own_interval),
     ("restored at another interval it has the same pairs, and may record what was skipped, or skip what was recorded", other_interval),
     ("at another capacity a strictly saved table comes back with other settings and another last recorded second", other_settings),
@@ -15,7 +15,7 @@ pub const CASES: &[Case] = &[
     ("of an image of two pairs, with each bit another: 133 refused, 11 the same, 120 other tables", flipped_33),
     ("of an image of sixteen pairs, with each bit another: 182 refused, 5 the same, 365 other tables", flipped_69),
     ("a changed byte reads as another table", other_pairs),
-    ("a clone is the table with its last recorded second, in arrays of its own", clones),
+    ("a clone is the table with its last recorded second and its totals, in arrays of its own", clones),
     ("equal tables may answer the same offer differently", equal_but_other),
     ("a table is checked, and questions to a copy of its pairs are answered as the lookups answer them", copied),
 ];
@@ -27,7 +27,9 @@ fn past_halving(mut tracker: SequenceTracker, restore: impl Fn(&[u8]) -> Result<
     for some in [&offers[..8192], &offers[8192..8193], &offers[8193..]] {
         tracker.insert_all(some).unwrap();
         let back = restore(&tracker.to_bytes_strict().unwrap()).unwrap();
-        assert_eq!(format!("{back:?}"), format!("{tracker:?}"));
+        assert_eq!(but_totals(&back), but_totals(&tracker));
+        let recorded = some.len() as u64;
+        assert_eq!((tracker.totals(), back.totals()), (Totals { recorded, ..Totals::default() }, Totals::default()));
         tracker = back;
     }
     assert_eq!((tracker.len(), tracker.last_recorded()), (4104, Some(Second(step * 8199))));
@@ -44,7 +46,7 @@ fn own_interval() {
     // At the greatest interval nothing is recorded after the first pair.
     let longest = table(8192, (1 << 63) - 1, &[(5, -100)]);
     let back = SequenceTracker::from_bytes_with_interval(&longest.to_bytes_strict().unwrap(), (1 << 63) - 1).unwrap();
-    assert_eq!(format!("{back:?}"), format!("{longest:?}"));
+    assert_eq!(but_totals(&back), but_totals(&longest));
 }
 
 fn other_interval() {
@@ -92,16 +94,18 @@ fn no_calls_state() {
     let (mut seqs, mut secs, mut out) = (vec![0; 8192], vec![0; 8192], [0; 30]);
     (seqs[0], secs[0]) = (1, 10);
     let (s, z, bytes) = (seqs.as_mut_ptr(), secs.as_mut_ptr(), out.as_mut_ptr());
+    let totals = sys::Totals { recorded: 1, went_back: 2, too_soon: 3, refused: 4 };
     for interval_secs in [10, 60] {
-        let state = sys::State { count: 1, capacity: 8192, has_last: 1, interval_secs, last: 20 };
+        let state = sys::State { count: 1, capacity: 8192, has_last: 1, interval_secs, last: 20, totals };
         unsafe {
             assert_eq!(sys::skut_check(state, s, 8192, z, 8192).number, 0);
             let saved = sys::skut_save_strict(state, s, 8192, z, 8192, bytes, 30);
             assert_eq!((saved.number, saved.a), (0, 29));
+            let restored = sys::State { last: 10, totals: sys::Totals::default(), ..state };
             let back = sys::skut_restore(bytes, 29, s, 8192, z, 8192);
-            assert_eq!((back.answer.number, back.state), (0, sys::State { last: 10, interval_secs: 10, ..state }));
+            assert_eq!((back.answer.number, back.state), (0, sys::State { interval_secs: 10, ..restored }));
             let back = sys::skut_restore_with_interval(bytes, 29, s, 8192, z, 8192, interval_secs);
-            assert_eq!((back.answer.number, back.state), (0, sys::State { last: 10, ..state }));
+            assert_eq!((back.answer.number, back.state), (0, restored));
         }
     }
 }
@@ -149,8 +153,10 @@ fn clones() {
     let tracker = table(3, 0, &[(1, 10), (2, 20), (3, 30), (4, 40)]);
     let mut clone = tracker.clone();
     assert_eq!(format!("{clone:?}"), format!("{tracker:?}"));
+    assert_eq!((but_totals(&clone), clone.totals()), (but_totals(&tracker), tracker.totals()));
     assert_eq!(clone.insert(pair(5, 50)), Ok(Recorded));
     assert_eq!((kept(&tracker), tracker.last_recorded()), (vec![(1, 10), (3, 30)], Some(Second(40))));
+    assert_eq!((tracker.totals().recorded, clone.totals().recorded), (4, 5));
 }
 
 fn equal_but_other() {

@@ -5,7 +5,7 @@ use skutlaneb::sys::Answer;
 use skutlaneb::{Array, Error};
 
 pub const CASES: &[Case] = &[
-    ("each of the 24 numbers is an error of that number", numbers),
+    ("each of the 25 numbers is an error of that number", numbers),
     ("what a number also tells stands in the error", told),
     ("4 to 8 have a place, and no other", placed),
     ("each error has a sentence of its own", sentences),
@@ -17,9 +17,14 @@ fn answer(number: u32) -> Answer {
     Answer { number, a: 1, b: 7, c: 9, byte: 17, bit: 5 }
 }
 
+/// The numbers of the list, which has gaps.
+fn listed() -> impl Iterator<Item = u32> {
+    (1..=24).chain([31])
+}
+
 fn numbers() {
     assert_eq!(Error::of(&answer(0)), None);
-    for number in 1..=24 {
+    for number in listed() {
         let error = Error::of(&answer(number)).unwrap();
         assert_eq!(error.number(), number);
         assert!(!matches!(error, Error::Unlisted { .. }));
@@ -43,6 +48,7 @@ fn told() {
         (20, Error::Wide { array, index }),
         (21, Error::Room { bytes: 1 }),
         (24, Error::BitsShort { left: 1 }),
+        (31, Error::TotalsFull),
     ];
     for (number, error) in expected {
         assert_eq!(Error::of(&answer(number)), Some(error));
@@ -52,19 +58,20 @@ fn told() {
 }
 
 fn placed() {
-    for number in 1..=25 {
+    for number in 1..=32 {
         let place = Error::of(&answer(number)).and_then(|error| error.place());
         assert_eq!(place, (4..=8).contains(&number).then_some(Place { byte: 17, bit: 5 }));
     }
 }
 
 fn sentences() {
-    let mut all: Vec<String> = (1..=24).map(|number| Error::of(&answer(number)).unwrap().to_string()).collect();
+    let mut all: Vec<String> = listed().map(|number| Error::of(&answer(number)).unwrap().to_string()).collect();
     assert!(all.iter().all(|sentence| sentence.contains(' ') && !sentence.ends_with('.')));
     all.sort();
     all.dedup();
-    assert_eq!(all.len(), 24);
+    assert_eq!(all.len(), 25);
     assert_eq!(Error::Version { byte: 2 }.to_string(), "the bytes start with version 2, and only version 1 is known");
+    assert_eq!(Error::TotalsFull.to_string(), "the table has counted 2^64-1 offers, and cannot count one more");
 }
 
 fn where_it_stops() {
@@ -96,7 +103,9 @@ fn where_it_stops() {
 }
 
 fn unlisted() {
-    let error = Error::of(&answer(25)).unwrap();
-    assert_eq!((error, error.number()), (Error::Unlisted { number: 25 }, 25));
-    assert!(error.to_string().contains("25"));
+    for number in (25..=30).chain([32, u32::MAX]) {
+        let error = Error::of(&answer(number)).unwrap();
+        assert_eq!((error, error.number()), (Error::Unlisted { number }, number));
+        assert!(error.to_string().contains(&number.to_string()));
+    }
 }

@@ -2,7 +2,7 @@
 use crate::run::Case;
 use crate::tables::{kept, pair, table};
 use skutlaneb::image::encode_pairs;
-use skutlaneb::sys::{self, Answer, State, TableAnswer, Tally};
+use skutlaneb::sys::{self, Answer, State, TableAnswer, Tally, Totals};
 use skutlaneb::Inserted::{Recorded, TooSoon, WentBack};
 use skutlaneb::{Error, SequenceTracker, TrackedSeq};
 
@@ -47,7 +47,7 @@ fn as_plain() {
     for pairs in [&[][..], &[(5, -100)], &[(100, 0), (164, 60)], &most] {
         let (image, count) = (image_of(pairs.iter().copied()), pairs.len());
         let last = pairs.last().map_or(0, |pair| pair.1);
-        let state = State { count, capacity: 8192, has_last: u32::from(count > 0), interval_secs: 10, last };
+        let state = State { count, capacity: 8192, has_last: u32::from(count > 0), interval_secs: 10, last, totals: Totals::default() };
         let (answer, seqs, secs) = told(None, &image, 8195, 8192);
         assert_eq!(answer, TableAnswer { answer: Answer::default(), tally: Tally::default(), state });
         assert!(seqs[..count].iter().copied().eq(pairs.iter().map(|pair| pair.0)) && seqs[count..].iter().all(|&seq| seq == 7));

@@ -17,11 +17,12 @@ mod runs;
 mod stack;
 mod tables;
 mod times;
+mod totals;
 mod values;
 
 #[no_mangle]
 pub extern "C" fn main(_argc: i32, _argv: *const *const u8) -> i32 {
-    let tracker = [tables::CASES, pairs::CASES, lists::CASES, reasons::CASES];
+    let tracker = [tables::CASES, pairs::CASES, lists::CASES, reasons::CASES, totals::CASES];
     let stored = [images::CASES, intervals::CASES, places::CASES, claims::CASES, runs::CASES];
     let others = [values::CASES, times::CASES, errors::CASES, arrays::CASES, bits::CASES, raw::CASES, stack::CASES];
     run::run(&[tracker.concat(), stored.concat(), others.concat()].concat())

@@ -1,6 +1,6 @@
 //! The library's functions as they are: layout, memory, states that no call returned.
 use crate::run::Case;
-use skutlaneb::sys::{self, Answer, State, TableAnswer, Tally};
+use skutlaneb::sys::{self, Answer, State, TableAnswer, Tally, Totals};
 use std::mem::{offset_of, size_of};
 use std::ptr::{null, null_mut};
 
@@ -12,15 +12,17 @@ pub const CASES: &[Case] = &[
     ("lists of different length are refused by 18, before the table", uneven),
 ];
 
-// A change here is a change of the number in `skut_layout_3`.
+// A change here is a change of the number in `skut_layout_4`.
 fn layout() {
     assert_eq!((size_of::<Answer>(), offset_of!(Answer, number)), (48, 0));
     assert_eq!((offset_of!(Answer, a), offset_of!(Answer, b), offset_of!(Answer, c)), (8, 16, 24));
     assert_eq!((offset_of!(Answer, byte), offset_of!(Answer, bit)), (32, 40));
-    assert_eq!((size_of::<State>(), offset_of!(State, capacity), offset_of!(State, has_last)), (32, 8, 12));
-    assert_eq!((offset_of!(State, interval_secs), offset_of!(State, last)), (16, 24));
+    assert_eq!((size_of::<Totals>(), offset_of!(Totals, recorded), offset_of!(Totals, went_back)), (32, 0, 8));
+    assert_eq!((offset_of!(Totals, too_soon), offset_of!(Totals, refused)), (16, 24));
+    assert_eq!((size_of::<State>(), offset_of!(State, count), offset_of!(State, capacity), offset_of!(State, has_last)), (64, 0, 8, 12));
+    assert_eq!((offset_of!(State, interval_secs), offset_of!(State, last), offset_of!(State, totals)), (16, 24, 32));
     assert_eq!((size_of::<Tally>(), offset_of!(Tally, recorded), offset_of!(Tally, went_back), offset_of!(Tally, too_soon)), (24, 0, 8, 16));
-    assert_eq!((size_of::<TableAnswer>(), offset_of!(TableAnswer, tally), offset_of!(TableAnswer, state)), (104, 48, 72));
+    assert_eq!((size_of::<TableAnswer>(), offset_of!(TableAnswer, tally), offset_of!(TableAnswer, state)), (136, 48, 72));
 }
 
 fn no_memory() {
@@ -51,6 +53,7 @@ fn forged() {
         State { capacity: 5, ..good },
         State { interval_secs: u64::MAX, ..good },
         State { count: 1, has_last: 1, last: i64::MAX, ..good },
+        State { totals: Totals { recorded: u64::MAX, refused: 1, ..good.totals }, ..good },
     ];
     for state in forged {
         let offered = unsafe { sys::skut_offer(state, seqs.as_mut_ptr(), 4, secs.as_mut_ptr(), 4, 1, 1) };
@@ -64,7 +67,7 @@ fn forged() {
 fn neither() {
     let (mut seqs, mut secs, mut out) = ([5u64, 0, 0, 0], [50i64, 0, 0, 0], [7u8; 100]);
     let none = unsafe { sys::skut_with_config(8193, 0) }.state;
-    let good = State { count: 1, capacity: 4, has_last: 1, interval_secs: 0, last: 50 };
+    let good = State { count: 1, capacity: 4, has_last: 1, interval_secs: 0, last: 50, totals: Totals::default() };
     for has_last in [2, 3, u32::MAX] {
         let (state, number) = (State { has_last, ..good }, 14);
         let (s, z) = (seqs.as_mut_ptr(), secs.as_mut_ptr());

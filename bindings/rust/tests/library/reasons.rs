@@ -1,9 +1,9 @@
 //! Why an offer is skipped.
 use crate::run::Case;
-use crate::tables::{kept, pair, table};
+use crate::tables::{but_totals, kept, pair, table};
 use skutlaneb::sys::{self, Answer, State, TableAnswer};
 use skutlaneb::Inserted::{Recorded, TooSoon, WentBack};
-use skutlaneb::{Error, Inserted, ListError, Second, SequenceTracker, Tally, TrackedSeq};
+use skutlaneb::{Error, Inserted, ListError, Second, SequenceTracker, Tally, Totals, TrackedSeq};
 
 pub const CASES: &[Case] = &[
     ("each reason begins and ends where its rule says", limits),
@@ -11,23 +11,23 @@ pub const CASES: &[Case] = &[
     ("a restored table's last recorded second is its last kept one", restored),
     ("a sequence that drops is refused by 17 only where its pair is not skipped, and 16 comes before both", order),
     ("a list counts each reason apart, up to the pair that is refused", lists),
-    ("a list that is skipped leaves the table as it was", all_skipped),
+    ("a list that is skipped leaves the table as it was but for its totals", all_skipped),
     ("another table's pairs are counted by the reason, too", extended),
-    ("skipped for either reason, a call of the library leaves the state and the whole arrays as they were", untouched),
-    ("a call of the library that is refused, or that makes a table, counts nothing", uncounted),
+    ("skipped for either reason, a call of the library leaves the state but for a total, and the whole arrays, as they were", untouched),
+    ("a call of the library that is refused, or that makes a table, counts nothing in its tally", uncounted),
 ];
 
 const FIRST_SECOND: i64 = -62_135_596_800;
 const LAST_SECOND: i64 = 253_402_300_799;
 
-/// What comes of a second, offered after a recorded one at an interval. Skipped, the table is as it was.
+/// What comes of a second, offered after a recorded one at an interval. Skipped, the table is as it was but for its totals.
 fn after(interval_secs: u64, last: i64, second: i64) -> Inserted {
     let mut tracker = table(8192, interval_secs, &[(5, last)]);
-    let before = format!("{tracker:?}");
+    let before = but_totals(&tracker);
     let inserted = tracker.insert(pair(6, second)).unwrap();
     match inserted {
         Recorded => assert_eq!((kept(&tracker), tracker.last_recorded()), (vec![(5, last), (6, second)], Some(Second(second)))),
-        WentBack | TooSoon => assert_eq!(format!("{tracker:?}"), before),
+        WentBack | TooSoon => assert_eq!(but_totals(&tracker), before),
     }
     inserted
 }
@@ -93,10 +93,10 @@ fn lists() {
 
 fn all_skipped() {
     let mut tracker = table(8, 10, &[(5, 100)]);
-    let before = format!("{tracker:?}");
+    let before = but_totals(&tracker);
     // Each sequence drops, too.
     assert_eq!(tracker.insert_all(&[(1, 99), (1, 100), (1, 109)].map(TrackedSeq::from)), Ok(Tally { recorded: 0, went_back: 1, too_soon: 2 }));
-    assert_eq!(format!("{tracker:?}"), before);
+    assert_eq!((but_totals(&tracker), tracker.totals()), (before, Totals { recorded: 1, went_back: 1, too_soon: 2, refused: 0 }));
 }
 
 fn extended() {
@@ -114,12 +114,13 @@ fn extended() {
 type Arrays = ([u64; 6], [i64; 6]);
 
 /// A table of two pairs and last recorded second 100, in arrays that hold other values past the pairs.
-const GOOD: State = State { count: 2, capacity: 4, has_last: 1, interval_secs: 10, last: 100 };
+const GOOD: State = State { count: 2, capacity: 4, has_last: 1, interval_secs: 10, last: 100, totals: COUNTED };
+const COUNTED: sys::Totals = sys::Totals { recorded: 7, went_back: 5, too_soon: 3, refused: 1 };
 const LENT: Arrays = ([3, 5, 91, 92, 93, 94], [50, 90, -91, -92, -93, -94]);
 
 /// A pair offered to that table, or to its arrays with another state, by each call of the library that offers: what it answers, and the arrays afterwards.
 fn by_each_call(state: State, seq: u64, second: i64) -> [(TableAnswer, Arrays); 3] {
-    let other = State { count: 1, capacity: 1, has_last: 1, interval_secs: 0, last: second };
+    let other = State { count: 1, capacity: 1, has_last: 1, interval_secs: 0, last: second, totals: sys::Totals::default() };
     ["skut_offer", "skut_offer_pairs", "skut_extend_from"].map(|call| {
         let (mut seqs, mut secs) = LENT;
         let (s, z) = (seqs.as_mut_ptr(), secs.as_mut_ptr());
@@ -134,24 +135,31 @@ fn by_each_call(state: State, seq: u64, second: i64) -> [(TableAnswer, Arrays); 
 
 fn untouched() {
     let (answer, none) = (Answer::default(), sys::Tally::default());
-    let (went_back, too_soon) = (sys::Tally { went_back: 1, ..none }, sys::Tally { too_soon: 1, ..none });
-    for (second, tally) in [(99, went_back), (95, went_back), (100, too_soon), (109, too_soon)] {
+    let went_back = (sys::Tally { went_back: 1, ..none }, sys::Totals { went_back: 6, ..COUNTED });
+    let too_soon = (sys::Tally { too_soon: 1, ..none }, sys::Totals { too_soon: 4, ..COUNTED });
+    for (second, (tally, totals)) in [(99, went_back), (95, went_back), (100, too_soon), (109, too_soon)] {
         // A sequence that drops, and one that does not.
         for seq in [4, 6] {
-            assert_eq!(by_each_call(GOOD, seq, second), [(TableAnswer { answer, tally, state: GOOD }, LENT); 3], "({seq}, {second})");
+            let state = State { totals, ..GOOD };
+            assert_eq!(by_each_call(GOOD, seq, second), [(TableAnswer { answer, tally, state }, LENT); 3], "({seq}, {second})");
         }
     }
-    let recorded = TableAnswer { answer, tally: sys::Tally { recorded: 1, ..none }, state: State { count: 3, last: 110, ..GOOD } };
+    let state = State { count: 3, last: 110, totals: sys::Totals { recorded: 8, ..COUNTED }, ..GOOD };
+    let recorded = TableAnswer { answer, tally: sys::Tally { recorded: 1, ..none }, state };
     assert_eq!(by_each_call(GOOD, 6, 110), [(recorded, ([3, 5, 6, 92, 93, 94], [50, 90, 110, -92, -93, -94])); 3]);
 }
 
 fn uncounted() {
     let none = sys::Tally::default();
     let disagrees = State { has_last: 2, ..GOOD };
+    let no_state = unsafe { sys::skut_with_config(8193, 0) }.state;
+    // 16 and 17 come with a state, which counts the refusal.
+    let refused = State { totals: sys::Totals { refused: 2, ..COUNTED }, ..GOOD };
     // No good table has a second outside the years, so that another table's pairs are not refused by 16.
-    for (state, seq, second, number, calls) in [(disagrees, 6, 99, 14, 3), (GOOD, 6, LAST_SECOND + 1, 16, 2), (GOOD, 4, 110, 17, 3)] {
+    let offers = [(disagrees, 6, 99, 14, 3, no_state), (GOOD, 6, LAST_SECOND + 1, 16, 2, refused), (GOOD, 4, 110, 17, 3, refused)];
+    for (state, seq, second, number, calls, after) in offers {
         for (told, arrays) in &by_each_call(state, seq, second)[..calls] {
-            assert_eq!((told.answer.number, told.tally, *arrays), (number, none, LENT));
+            assert_eq!((told.answer.number, told.tally, told.state, *arrays), (number, none, after, LENT));
         }
     }
     let image = table(8192, 60, &[(5, 100)]).to_bytes_strict().unwrap();

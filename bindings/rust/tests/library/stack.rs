@@ -3,12 +3,12 @@
 //! A call is made on painted memory, its arguments laid out here by the rules of the System V convention, so that no frame of this program stands there. What
 //! is written to is the arguments that go by the stack, the return address and what the library uses: the same in a debug and in a release build.
 use crate::run::Case;
-use skutlaneb::sys::{self, State, TableAnswer};
+use skutlaneb::sys::{self, State, TableAnswer, Totals};
 use std::mem::size_of;
 
 pub const CASES: &[Case] = &[
     ("no call needs more stack than the header says", stack),
-    ("nor does one that is refused for its interval, or where bytes, bits or a list of offers stop", refused),
+    ("nor does one that is refused for its interval or its offer, or where bytes, bits or a list of offers stop", refused),
 ];
 
 const HEADER: &str = include_str!("../../../c/skutlaneb.h");
@@ -25,7 +25,7 @@ struct Lent {
 
 /// Pairs of which no code is one bit, and their image.
 fn full() -> Lent {
-    let state = State { count: PAIRS, capacity: PAIRS as u32, has_last: 1, interval_secs: 0, last: PAIRS as i64 };
+    let state = State { count: PAIRS, capacity: PAIRS as u32, has_last: 1, interval_secs: 0, last: PAIRS as i64, totals: Totals::default() };
     let seqs: Vec<u64> = (0..PAIRS).map(|i| (i * i % 5 + 10 * i) as u64).collect();
     let secs: Vec<i64> = (0..PAIRS).map(|i| (i - i % 3) as i64).collect();
     let mut bytes = vec![0; ROOM];
@@ -51,7 +51,7 @@ fn calls(l: &mut Lent) -> Vec<Call> {
     let words = |words: &[u64]| words.iter().map(|&word| Word(word)).collect::<Vec<_>>();
     let arrays = |more: &[u64]| words(&[&[s, n, z, n], more].concat());
     let table = |more: &[u64]| std::iter::once(Table(state)).chain(arrays(more)).collect::<Vec<_>>();
-    let other = State { count: 1, capacity: 1, has_last: 1, interval_secs: 0, last: 9000 };
+    let other = State { count: 1, capacity: 1, has_last: 1, interval_secs: 0, last: 9000, totals: Totals::default() };
     let extended = table(&[]).into_iter().chain([Table(other)]).chain(words(&[one_seq, 1, one_sec, 1])).collect();
     vec![
         ("skut_new", sys::skut_new as *const (), words(&[])),
@@ -87,7 +87,10 @@ fn laid_out(args: &[Arg]) -> ([u64; 5], Vec<u64>) {
                 used += 1;
             }
             Word(word) => pushed.push(word),
-            Table(s) => pushed.extend([s.count as u64, u64::from(s.capacity) | u64::from(s.has_last) << 32, s.interval_secs, s.last as u64]),
+            Table(s) => {
+                pushed.extend([s.count as u64, u64::from(s.capacity) | u64::from(s.has_last) << 32, s.interval_secs, s.last as u64]);
+                pushed.extend([s.totals.recorded, s.totals.went_back, s.totals.too_soon, s.totals.refused]);
+            }
         }
     }
     (registers, pushed)
@@ -164,11 +167,21 @@ fn refused() {
         calls.push((24, ("skut_read_bits", sys::skut_read_bits as *const (), words(&[b, k, k - 1, 3, 64]))));
     }
     calls.push((15, ("skut_restore_with_interval", sys::skut_restore_with_interval as *const (), words(&[s, 0, s, n, z, n, u64::MAX]))));
-    let (low_seq, late_sec, other) = (3u64, 9000i64, State { count: 1, capacity: 1, has_last: 1, interval_secs: 0, last: 9000 });
-    let one = [&low_seq as *const u64 as u64, 1, &late_sec as *const i64 as u64, 1];
-    let table = || std::iter::once(Table(lent.state)).chain(words(&[s, n, z, n]));
-    calls.push((17, ("skut_offer_pairs", sys::skut_offer_pairs as *const (), table().chain(words(&one)).collect())));
-    calls.push((17, ("skut_extend_from", sys::skut_extend_from as *const (), table().chain([Table(other)]).chain(words(&one)).collect())));
+    // Offers that drop, that are outside the years, and to a table that has counted 2^64-1.
+    let (low_seq, late_sec, outside) = (3u64, 9000i64, i64::MAX);
+    let other = State { count: 1, capacity: 1, has_last: 1, interval_secs: 0, last: 9000, totals: Totals::default() };
+    let counted = State { totals: Totals { refused: u64::MAX, ..Totals::default() }, ..lent.state };
+    for (number, state, sec) in [(17, lent.state, &late_sec), (16, lent.state, &outside), (31, counted, &late_sec)] {
+        let one = [&low_seq as *const u64 as u64, 1, sec as *const i64 as u64, 1];
+        let table = || std::iter::once(Table(state)).chain(words(&[s, n, z, n]));
+        calls.push((number, ("skut_offer", sys::skut_offer as *const (), table().chain(words(&[low_seq, *sec as u64])).collect())));
+        calls.push((number, ("skut_offer_pairs", sys::skut_offer_pairs as *const (), table().chain(words(&one)).collect())));
+        // No good table has a second outside the years.
+        if number != 16 {
+            let extended = table().chain([Table(other)]).chain(words(&one)).collect();
+            calls.push((number, ("skut_extend_from", sys::skut_extend_from as *const (), extended)));
+        }
+    }
     for (number, call) in &calls {
         let ((answered, used), most) = (stack_of(call), declared(call.0));
         println!("   {}, refused {number}: {used} of {most} bytes of stack", call.0);

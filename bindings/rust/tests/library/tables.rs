@@ -1,7 +1,7 @@
 //! Settings, offers and lookups.
 use crate::run::Case;
 use skutlaneb::FindOption::{RoundDown, RoundUp};
-use skutlaneb::{Error, Inserted, Second, Seq, SequenceTracker, TrackedSeq};
+use skutlaneb::{Error, Inserted, Second, Seq, SequenceTracker, Totals, TrackedSeq};
 
 pub const CASES: &[Case] = &[
     ("a new table has the default settings and no pair", new),
@@ -26,6 +26,11 @@ pub fn pair(seq: u64, sec: i64) -> TrackedSeq {
 
 pub fn kept(tracker: &SequenceTracker) -> Vec<(u64, i64)> {
     tracker.pairs().map(|pair| (pair.seq.0, pair.ts.0)).collect()
+}
+
+/// All of a table but its totals: the pairs, the settings, the last recorded second.
+pub fn but_totals(tracker: &SequenceTracker) -> (Vec<(u64, i64)>, u32, u64, Option<Second>) {
+    (kept(tracker), tracker.capacity(), tracker.interval_secs(), tracker.last_recorded())
 }
 
 /// A table of these settings after these pairs, each of which is recorded.
@@ -152,19 +157,19 @@ fn nothing() {
 
 fn outside() {
     let mut tracker = table(4, 0, &[(0, -62_135_596_800), (u64::MAX, 253_402_300_799)]);
-    let before = format!("{tracker:?}");
+    let before = but_totals(&tracker);
     for second in [-62_135_596_801, 253_402_300_800, i64::MIN, i64::MAX] {
         assert_eq!(tracker.insert(pair(u64::MAX, second)), Err(Error::OfferedOutside));
     }
-    assert_eq!(format!("{tracker:?}"), before);
+    assert_eq!((but_totals(&tracker), tracker.totals()), (before, Totals { recorded: 2, refused: 4, ..Totals::default() }));
 }
 
 fn drops() {
     // Sequences are unsigned: the greatest is not below the smallest.
     let mut tracker = table(4, 0, &[(5, 10), (1 << 63, 20)]);
-    let before = format!("{tracker:?}");
+    let before = but_totals(&tracker);
     assert_eq!(tracker.insert(pair((1 << 63) - 1, 30)), Err(Error::OfferedDrops));
-    assert_eq!(format!("{tracker:?}"), before);
+    assert_eq!((but_totals(&tracker), tracker.totals()), (before, Totals { recorded: 2, refused: 1, ..Totals::default() }));
     assert_eq!(tracker.insert(pair(1 << 63, 30)), Ok(Inserted::Recorded));
 }
 
@@ -172,6 +177,7 @@ fn equality() {
     let one = table(3, 0, &[(1, 10), (2, 20), (3, 30), (4, 40)]);
     let other = table(3, 0, &[(1, 10), (3, 30)]);
     assert_ne!(one.last_recorded(), other.last_recorded());
+    assert_ne!(one.totals(), other.totals());
     assert_eq!(one, other);
     assert_ne!(one, table(3, 1, &[(1, 10), (3, 30)]));
     assert_ne!(one, table(4, 0, &[(1, 10), (3, 30)]));

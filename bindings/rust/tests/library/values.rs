@@ -2,7 +2,7 @@
 use crate::run::Case;
 use crate::tables::pair;
 use skutlaneb::bits::Place;
-use skutlaneb::{Array, Error, FindOption, Inserted, ListError, NoSystemTime, Pairs, Second, Seq, SequenceTracker, Tally, TrackedSeq};
+use skutlaneb::{Array, Error, FindOption, Inserted, ListError, NoSystemTime, Pairs, Second, Seq, SequenceTracker, Tally, Totals, TrackedSeq};
 use std::collections::HashSet;
 use std::hash::Hash;
 
@@ -46,6 +46,9 @@ fn keys() {
     let (recorded, went_back, too_soon) = (1, 1, 1);
     let none = Tally { recorded: 0, went_back: 0, too_soon: 0 };
     assert_eq!(distinct([Tally::default(), none, Tally { recorded, ..none }, Tally { went_back, ..none }, Tally { too_soon, ..none }]), 4);
+    let (totals, refused) = (Totals::default(), 1);
+    let one_each = [Totals { recorded, ..totals }, Totals { went_back, ..totals }, Totals { too_soon, ..totals }, Totals { refused, ..totals }];
+    assert_eq!((distinct(one_each), distinct([totals, Totals { recorded: 0, went_back: 0, too_soon: 0, refused: 0 }])), (4, 1));
     assert_eq!(distinct([Array::Sequences, Array::Seconds]), 2);
     assert_eq!(distinct([Error::Empty, Error::Settings, Error::Empty]), 2);
     assert_eq!(distinct([ListError::Own(Error::Empty), ListError::Other(Error::Empty)]), 2);
@@ -55,7 +58,7 @@ fn keys() {
 
 fn threads() {
     fn goes<T: Send + Sync + Unpin + std::panic::UnwindSafe + 'static>() {}
-    goes::<(SequenceTracker, Pairs<'static>, Error, ListError, NoSystemTime)>();
+    goes::<(SequenceTracker, Pairs<'static>, Totals, Error, ListError, NoSystemTime)>();
 }
 
 fn readme() {

@@ -16,26 +16,35 @@ enum-known-offered c = search needs
 going-requires : tie.Need-going-requires
 going-requires c κs = search needs
 
-enum-told : tie.Need-enum-told
-enum-told c = search needs
+enum-known-offered-2 : tie.Need-enum-known-offered-2
+enum-known-offered-2 c = search needs
 
 going-requires-2 : tie.Need-going-requires-2
 going-requires-2 c κs = search needs
 
-enum-told-2 : tie.Need-enum-told-2
-enum-told-2 c = search needs
+enum-known-offered-3 : tie.Need-enum-known-offered-3
+enum-known-offered-3 c = search needs
 
 going-requires-3 : tie.Need-going-requires-3
 going-requires-3 c κs = search needs
 
-enum-known-offered-2 : tie.Need-enum-known-offered-2
-enum-known-offered-2 c = search needs
+enum-known-offered-4 : tie.Need-enum-known-offered-4
+enum-known-offered-4 c = search needs
 
 stopped-requires : tie.Need-stopped-requires
 stopped-requires c κs =
     let counted = c .before .before .before in
     let start = counted .before .before .before .before .before .before .before .before .before in
-    rw (counted .counted .ensures, c .before .offered2 .given .1) (omega (arith, start .pre .1))
+    rw (counted .counted .ensures, c .before .offered4 .given .1) (omega (arith, start .pre .1))
+
+enum-known-offered-5 : tie.Need-enum-known-offered-5
+enum-known-offered-5 c = search needs
+
+stopped-requires-2 : tie.Need-stopped-requires-2
+stopped-requires-2 c κs =
+    let counted = c .before .before .before in
+    let start = counted .before .before .before .before .before .before .before .before .before in
+    rw (counted .counted .ensures, c .before .offered5 .given .1) (omega (arith, start .pre .1))
 
 same-length : tie.Need-same-length
 same-length c = search needs
@@ -57,9 +66,9 @@ same-length-4 c = search needs
 
 returns-2 : tie.Need-returns-2
 returns-2 c =
-    let counted = c .before .before .before in
+    let counted = c .before .before .before .before in
     let offered = counted .before .before .before .before in
-    stepped (offered .before .before .before .before .before .args .p) _ _ _ _ _ _ _ _ _ (counted .counted .ensures) (c .going2 .ensures) (c .before .enum-told .given .1) (offered .offer-good .ensures)
+    stepped (offered .before .before .before .before .before .args .p) _ _ _ _ _ _ _ _ _ (counted .counted .ensures) (c .going2 .ensures) (c .before .before .offered2 .given .1) (offered .offer-good .ensures)
 
 same-length-5 : tie.Need-same-length-5
 same-length-5 c = search needs
@@ -69,9 +78,9 @@ same-length-6 c = search needs
 
 returns-3 : tie.Need-returns-3
 returns-3 c =
-    let counted = c .before .before .before in
+    let counted = c .before .before .before .before in
     let offered = counted .before .before .before .before in
-    stepped (offered .before .before .before .before .before .args .p) _ _ _ _ _ _ _ _ _ (counted .counted .ensures) (c .going3 .ensures) (c .before .enum-told2 .given .1) (offered .offer-good .ensures)
+    stepped (offered .before .before .before .before .before .args .p) _ _ _ _ _ _ _ _ _ (counted .counted .ensures) (c .going3 .ensures) (c .before .before .offered3 .given .1) (offered .offer-good .ensures)
 
 same-length-7 : tie.Need-same-length-7
 same-length-7 c = search needs
@@ -83,7 +92,19 @@ returns-4 : tie.Need-returns-4
 returns-4 c =
     let counted = c .before .before .before .before in
     let offered = counted .before .before .before .before in
-    stepped (offered .before .before .before .before .before .args .p) _ _ _ _ _ _ _ _ _ (counted .counted .ensures) (c .stopped .ensures) (c .before .before .offered2 .given .1) (offered .offer-good .ensures)
+    stepped (offered .before .before .before .before .before .args .p) _ _ _ _ _ _ _ _ _ (counted .counted .ensures) (c .stopped .ensures) (c .before .before .offered4 .given .1) (offered .offer-good .ensures)
+
+same-length-9 : tie.Need-same-length-9
+same-length-9 c = search needs
+
+same-length-10 : tie.Need-same-length-10
+same-length-10 c = search needs
+
+returns-5 : tie.Need-returns-5
+returns-5 c =
+    let counted = c .before .before .before .before in
+    let offered = counted .before .before .before .before in
+    stepped (offered .before .before .before .before .before .args .p) _ _ _ _ _ _ _ _ _ (counted .counted .ensures) (c .stopped2 .ensures) (c .before .before .offered5 .given .1) (offered .offer-good .ensures)
 
 pub step-spec : {M : Type 1} → statement M
 step-spec =
@@ -93,12 +114,14 @@ step-spec =
     counted-requires
     enum-known-offered
     going-requires
-    enum-told
-    going-requires-2
-    enum-told-2
-    going-requires-3
     enum-known-offered-2
+    going-requires-2
+    enum-known-offered-3
+    going-requires-3
+    enum-known-offered-4
     stopped-requires
+    enum-known-offered-5
+    stopped-requires-2
     same-length
     same-length-2
     returns
@@ -110,4 +133,7 @@ step-spec =
     returns-3
     same-length-7
     same-length-8
-    returns-4)
+    returns-4
+    same-length-9
+    same-length-10
+    returns-5)

@@ -13,9 +13,9 @@ capacity-in-requires c κs = search needs
 
 returns : tie.Need-returns
 returns c =
-    let at = c .before .before .before in
+    let at = c .before .before .before .before in
     let f : SFits w64 (at .args .state .last) = search needs in
-    rw (c .before .last-in .ensures, c .capacity-in .ensures, toZ-ofZ f)
+    rw (c .before .before .last-in .ensures, c .before .capacity-in .ensures, toZ-ofZ f)
 
 pub table-of-spec : {M : Type 1} → statement M
 table-of-spec = tie.close (tie.spec last-in-requires capacity-in-requires returns)

@@ -38,12 +38,25 @@ last-wrong-requires c κs = search needs
 
 returns-5 : tie.Need-returns-5
 returns-5 c =
-    let count = c .before in
+    let count = c .before .before in
     let secs = count .before in
     let seqs = secs .before in
     let room = seqs .before in
     let settings = room .before in
-    rw (← settings .before .bad-settings .ensures, settings .if1 .left, ← room .room .ensures, le-ltb _ _ (seqs .if2 .left), le-ltb _ _ (secs .if3 .left), le-ltb _ _ (count .if4 .left)) (c .last-wrong .ensures)
+    rw (← settings .before .bad-settings .ensures, settings .if1 .left, ← room .room .ensures, le-ltb _ _ (seqs .if2 .left), le-ltb _ _ (secs .if3 .left), le-ltb _ _ (count .if4 .left), ← c .before .last-wrong .ensures, c .if5 .taken)
+
+too-many-requires : tie.Need-too-many-requires
+too-many-requires c κs = search needs
+
+returns-6 : tie.Need-returns-6
+returns-6 c =
+    let last = c .before .before in
+    let count = last .before .before in
+    let secs = count .before in
+    let seqs = secs .before in
+    let room = seqs .before in
+    let settings = room .before in
+    rw (← settings .before .bad-settings .ensures, settings .if1 .left, ← room .room .ensures, le-ltb _ _ (seqs .if2 .left), le-ltb _ _ (secs .if3 .left), le-ltb _ _ (count .if4 .left), ← last .before .last-wrong .ensures, last .if5 .left) (c .too-many .ensures)
 
 pub disagrees-spec : {M : Type 1} → statement M
 disagrees-spec =
@@ -56,4 +69,6 @@ disagrees-spec =
     returns-3
     returns-4
     last-wrong-requires
-    returns-5)
+    returns-5
+    too-many-requires
+    returns-6)

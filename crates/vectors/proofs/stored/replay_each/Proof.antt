@@ -1,5 +1,6 @@
 use Prim.Native.Nat.{_-_}
 use mathlib.Core.Path.{_≡_}
+use native.Mathlib.Omega.{arith}
 use lib.ListN.{length}
 use borrow.Author.Needs.{needs}
 use Rattle.vectors.proofs.stored.replay_each.Statement.{statement}
@@ -57,7 +58,10 @@ replay-requires : tie.Need-replay-requires Inv-loop μ-loop
 replay-requires c κs = search needs
 
 add-done : tie.Need-add-done Inv-loop μ-loop
-add-done c = search needs
+add-done c =
+    let whole = c .before .before .before .before .before .before .before in
+    let in-loop = whole .before .before .before .before .before .before .before in
+    omega (arith, in-loop .loop-test .taken, in-loop .before .before .before .before .before .fits .n)
 
 loop-less : tie.Need-loop-less Inv-loop μ-loop
 loop-less c = search needs

@@ -1,0 +1,67 @@
+-- What a table answers depends on the rest of its state, all of it but the totals, and on the pairs that it keeps, as long as the totals have room for the offers made.
+use Prim.Native.Nat.{ℕ, _+_, _≤_, _<_, _^_}
+use mathlib.Core.Path.{_≡_}
+use mathlib.Core.List.{List}
+use lib.ListN.{length}
+use lib.IntN.{ℤ}
+use Rattle.told.specs.Told.{Told}
+use Rattle.told.specs.Over.{filled}
+use Rattle.gorilla.specs.Reading.{Pairs}
+use Rattle.totals.specs.Totals.{sumOf}
+use Rattle.tracker.specs.Table.{kept}
+use Rattle.tracker.specs.Rest.{restOf}
+use Rattle.tracker.specs.declared.Seq.{Seq}
+use Rattle.tracker.specs.declared.Second.{Second}
+use Rattle.tracker.specs.declared.TrackedSeq.{TrackedSeq}
+use Rattle.lookup.specs.Find.{findTs, findSeq}
+use Rattle.lookup.specs.declared.FindOption.{FindOption}
+use Rattle.offers.specs.Whole.{Table, checkIn, Left}
+use Rattle.offers.specs.Offer.{offering}
+use Rattle.offers.specs.Rest.{offerRest}
+use Rattle.log.specs.Log.{logOf}
+use Rattle.log.specs.Pairs.{pairsLogOf, extendOf}
+use Rattle.log.specs.Rest.{logRest}
+use Rattle.saving.specs.Save.{saveStrictOf, saveOf, keptImage}
+
+-- the pairs that a table keeps
+abbrev pub keptIn : Table → Pairs
+keptIn w = record { seqs = kept (w .state) (w .seqs); secs = kept (w .state) (w .secs) }
+
+-- what `save_strict` tells, and what `save`, which is the Rust's, tells
+abbrev pub strictTo : Table → List ℕ → Told ℕ
+strictTo w out = saveStrictOf (w .state) (w .seqs) (w .secs) (length out)
+
+abbrev pub saveTo : Table → List ℕ → Told ℕ
+saveTo w out = saveOf (w .state) (w .seqs) (w .secs) (length out)
+
+-- the image of the kept pairs, which a save writes
+abbrev pub imageFor : Table → List ℕ
+imageFor w = keptImage (w .state) (w .seqs) (w .secs)
+
+-- two tables are told the same but for the totals, and keep the same pairs afterwards; `rest` is what is told without them
+abbrev pub ToldAlike : {A : Type 0} → (A → A) → Left A → Left A → Type 0
+ToldAlike rest l m = (rest (l .answer) ≡ rest (m .answer)) × (keptIn (l .table) ≡ keptIn (m .table))
+
+-- two tables answer alike, where up to m more offers may come
+pub record AnswerAlike (m : ℕ) (w v : Table) : Type 0 where
+  pub by-check : checkIn w ≡ checkIn v
+  -- an offer; each list of offers, as records and as two lists; each other table's pairs, and each other table that takes the pairs of this one
+  pub by-offer : (seq : Seq) (ts : Second) → 1 ≤ m → ToldAlike offerRest (offering w seq ts) (offering v seq ts)
+  pub by-log : (rs : List TrackedSeq) → length rs ≤ m → ToldAlike logRest (logOf w rs) (logOf v rs)
+  pub by-pairs : (qs : List ℕ) (ss : List ℤ) → length qs ≤ m → ToldAlike logRest (pairsLogOf w qs ss) (pairsLogOf v qs ss)
+  pub by-other : (other : Table) → other .state .count ≤ m → ToldAlike logRest (extendOf w other) (extendOf v other)
+  pub as-other : (other : Table) → extendOf other w ≡ extendOf other v
+  -- each lookup
+  pub by-seq : (x : Seq) (opt : FindOption) → findTs (w .state) (w .seqs) (w .secs) x opt ≡ findTs (v .state) (v .seqs) (v .secs) x opt
+  pub by-second : (x : Second) (opt : FindOption) → findSeq (w .state) (w .seqs) (w .secs) x opt ≡ findSeq (v .state) (v .seqs) (v .secs) x opt
+  -- each save, strict or not, and the buffer after it
+  pub by-strict : (out : List ℕ) → (strictTo w out ≡ strictTo v out) × (filled (strictTo w out) (imageFor w) out ≡ filled (strictTo v out) (imageFor v) out)
+  pub by-save : (out : List ℕ) → (saveTo w out ≡ saveTo v out) × (filled (saveTo w out) (imageFor w) out ≡ filled (saveTo v out) (imageFor v) out)
+
+-- the totals of a table have room for m more offers
+abbrev pub Room : ℕ → Table → Type 0
+Room m w = sumOf (w .state .totals) + m < 2 ^ 64
+
+-- the law: two tables with the same arrays, good or not, whose states are the same but for the totals
+abbrev pub RestAlone : Type 0
+RestAlone = (m : ℕ) (w v : Table) → restOf (w .state) ≡ restOf (v .state) → w .seqs ≡ v .seqs → w .secs ≡ v .secs → Room m w → Room m v → AnswerAlike m w v
