@@ -9,7 +9,8 @@ use borrow.Author.Tests.{ltb-true}
 use Rattle.told.specs.Told.{Told, gave, refused, ifGood}
 use Rattle.told.proofs.Unique.{same-gift, same-list}
 use Rattle.limits.specs.Domain.{outside}
-use Rattle.totals.specs.Totals.{sumOf, most, full}
+use Rattle.totals.specs.Totals.{sumOf, most, full, oneMore}
+use Rattle.totals.specs.declared.Totals.{Totals}
 use Rattle.totals.specs.declared.Fate.the-variants as fate
 use Rattle.totals.proofs.Sum.{sum-more, still-fit}
 use Rattle.tracker.specs.declared.Seq.{Seq}
@@ -19,7 +20,15 @@ use Rattle.order.proofs.Bools.{not-given, passed}
 use Rattle.skipping.specs.Reasons.{goesBack, comesTooSoon}
 use Rattle.offers.specs.Whole.{Table, checkIn}
 use Rattle.offers.specs.Offer.{Outcome, recorded, wentBack, tooSoon, pairRefused, lowSeq, outcomeOf, offerTo, offeredTo}
-use Rattle.offers.specs.Counted.{Counts, OfferCounts, totalsWith}
+use Rattle.offers.specs.Counted.{Counts, OfferCounts}
+
+-- the totals after an offer that told this
+abbrev pub totalsWith : Told Outcome → Totals → Totals
+totalsWith (gave (recorded t)) n = oneMore fate.Recorded n
+totalsWith (gave (wentBack t)) n = oneMore fate.WentBack n
+totalsWith (gave (tooSoon t)) n = oneMore fate.TooSoon n
+totalsWith (gave (pairRefused what t)) n = oneMore fate.Refused n
+totalsWith (refused what) n = n
 
 -- what holds of each of five outcomes holds of the one that is taken
 five : (P : Outcome → Type 0) (a b c d : Bool) {o₁ o₂ o₃ o₄ o₅ : Outcome} → P o₁ → P o₂ → P o₃ → P o₄ → P o₅ → P (cond a o₁ (cond b o₂ (cond c o₃ (cond d o₄ o₅))))

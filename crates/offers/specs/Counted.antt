@@ -5,7 +5,6 @@ use mathlib.Core.Logic.{_⊎_}
 use mathlib.Core.List.{List, [], _∷_}
 use Rattle.told.specs.Told.{Told, gave, refused}
 use Rattle.totals.specs.Totals.{sumOf, most, oneMore}
-use Rattle.totals.specs.declared.Totals.{Totals}
 use Rattle.totals.specs.declared.Fate.the-variants as fate
 use Rattle.tracker.specs.declared.Seq.{Seq}
 use Rattle.tracker.specs.declared.Second.{Second}
@@ -27,11 +26,3 @@ Counts w (refused what) = (checkIn w ≡ refused what) ⊎ ((checkIn w ≡ gave 
 
 abbrev pub OfferCounts : Type 0
 OfferCounts = (w : Table) (seq : Seq) (ts : Second) → Counts w (offerTo w seq ts)
-
--- the totals after an offer that told this
-abbrev pub totalsWith : Told Outcome → Totals → Totals
-totalsWith (gave (recorded t)) n = oneMore fate.Recorded n
-totalsWith (gave (wentBack t)) n = oneMore fate.WentBack n
-totalsWith (gave (tooSoon t)) n = oneMore fate.TooSoon n
-totalsWith (gave (pairRefused what t)) n = oneMore fate.Refused n
-totalsWith (refused what) n = n

@@ -22,8 +22,7 @@ use Rattle.fresh.specs.Fresh.{defaultCapacity, emptyTable, freshTable, configOf
 use Rattle.settling.specs.Settle.{lastOf}
 use Rattle.offers.specs.Whole.{Table}
 use Rattle.offers.specs.Offer.{Outcome, recorded, wentBack, tooSoon, pairRefused, offerTo}
-use Rattle.offers.specs.Counted.{totalsWith}
-use Rattle.offers.proofs.Counted.{totals-after}
+use Rattle.offers.proofs.Counted.{totalsWith, totals-after}
 use Rattle.restoring.specs.Restore.{readTable, judged, tooShort, readInto, restoreAt}
 use Rattle.theorems.specs.Run.{offered, step, ranTo, answers}
 use Rattle.theorems.specs.Lists.{offersOf}
