@@ -7,8 +7,8 @@ ghost use Rattle.tallies.specs.Tally.{total};
 ghost use Rattle.log.specs.Log.{toldLog};
 ghost use Rattle.log.specs.Inner.{toldProgress, goingOf, stoppedOf, Steps};
 use crate::Logged;
-use offers::Offered;
 use offers::inner as offer;
+use offers::inner::Came;
 use tallies::Tally;
 use tallies::inner::counted;
 use tallies::inner::total;
@@ -63,14 +63,15 @@ pub fn step(seqs: &mut [u64], secs: &mut [i64], p: Progress, pair: TrackedSeq) -
 {
     let own = p.table;
     let end = p.end;
-    let offered = offer::offer_good(own, seqs, secs, pair.seq, pair.ts);
-    let tally = counted(p.tally, offered);
-    match offered {
-        Offered::Recorded(table) => going(table, tally, end),
-        Offered::WentBack(table) => going(table, tally, end),
-        Offered::TooSoon(table) => going(table, tally, end),
-        Offered::PairRefused { why, table } => stopped(table, tally, why),
-        Offered::Refused(why) => stopped(own, tally, why),
+    let came = offer::offer_good(own, seqs, secs, pair.seq, pair.ts);
+    let tally = counted(p.tally, came);
+    let table = offer::after(own, came, pair.ts);
+    match came {
+        Came::Recorded(_) => going(table, tally, end),
+        Came::WentBack => going(table, tally, end),
+        Came::TooSoon => going(table, tally, end),
+        Came::PairRefused(why) => stopped(table, tally, why),
+        Came::Full => stopped(table, tally, Refusal::TotalsFull),
     }
 }
 

@@ -3,7 +3,7 @@ use mathlib.Core.Path.{_≡_, refl, sym, ap, subst, _∙_}
 use mathlib.Core.Logic.{_⊎_, inl, inr}
 use mathlib.Core.Bool.{Bool, true, false, cond}
 use mathlib.Core.List.{List, [], _∷_}
-use Prim.Native.Nat.{ℕ, _+_, _≤_}
+use Prim.Native.Nat.{ℕ, _+_, _≤_, _<_}
 use native.Mathlib.Omega.{arith}
 use borrow.Author.Tests.{ltb-true}
 use Rattle.told.specs.Told.{Told, gave, refused, ifGood}
@@ -12,7 +12,7 @@ use Rattle.limits.specs.Domain.{outside}
 use Rattle.totals.specs.Totals.{sumOf, most, full, oneMore}
 use Rattle.totals.specs.declared.Totals.{Totals}
 use Rattle.totals.specs.declared.Fate.the-variants as fate
-use Rattle.totals.proofs.Sum.{sum-more, still-fit}
+use Rattle.totals.proofs.Sum.{sum-more, room-for-one}
 use Rattle.tracker.specs.declared.Seq.{Seq}
 use Rattle.tracker.specs.declared.Second.{Second}
 use Rattle.tracker.proofs.Good.{fine}
@@ -21,6 +21,9 @@ use Rattle.skipping.specs.Reasons.{goesBack, comesTooSoon}
 use Rattle.offers.specs.Whole.{Table, checkIn}
 use Rattle.offers.specs.Offer.{Outcome, recorded, wentBack, tooSoon, pairRefused, lowSeq, outcomeOf, offerTo, offeredTo}
 use Rattle.offers.specs.Counted.{Counts, OfferCounts}
+use Rattle.offers.specs.Inner.{toldCame, RoomFor}
+use Rattle.offers.specs.declared.inner.Came.{Came}
+use Rattle.offers.specs.declared.inner.Came.the-variants.{Recorded, WentBack, TooSoon, PairRefused, Full}
 
 -- the totals after an offer that told this
 abbrev pub totalsWith : Told Outcome → Totals → Totals
@@ -66,6 +69,17 @@ module _ (w : Table) (seq : Seq) (ts : Second) where
       go : (c : Told (Unit {0})) → checkIn w ≡ c → ifGood c (cond (full (w .state .totals)) (refused (31 ∷ [])) (gave (outcomeOf w seq ts))) ≡ gave o → Reached o
       go (refused what) e h = absurd (not-given what o h)
       go (gave tt) e h = let p = passed (full (w .state .totals)) (31 ∷ []) _ o h in record { good = e; room = p .0; outcome = same-gift (p .1) }
+
+  room-left : (o : Outcome) → gave o ≡ offerTo w seq ts → sumOf (w .state .totals) < most
+  room-left o e = omega (arith, room-for-one (w .state .totals) (reached o (sym e) .room))
+
+  -- so there is room to count what came of it
+  pub room-for : (c : Came) → toldCame (w .state) ts c ≡ offerTo w seq ts → RoomFor (w .state) c
+  room-for (Recorded count) e = room-left _ e
+  room-for WentBack e = room-left _ e
+  room-for TooSoon e = room-left _ e
+  room-for (PairRefused why) e = room-left _ e
+  room-for Full e = tt
 
   pub counts-so : (o : Told Outcome) → offerTo w seq ts ≡ o → Counts w o
   counts-so o h = subst (Counts w) h offer-counts

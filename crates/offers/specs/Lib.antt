@@ -3,3 +3,4 @@ pub mod Offer
 pub mod Rest
 pub mod Counted
 pub mod Skipped
+pub mod Inner

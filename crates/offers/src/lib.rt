@@ -38,7 +38,10 @@ pub fn offer(
 {
     let checked = check(table, seqs, secs);
     match checked {
-        Checked::Good => inner::offer_good(table, seqs, secs, seq, ts),
+        Checked::Good => {
+            let came = inner::offer_good(table, seqs, secs, seq, ts);
+            steps::offered(table, came, ts)
+        }
         Checked::Refused(why) => Offered::Refused(why),
     }
 }

@@ -1,13 +1,13 @@
-// The test for 17, and the states that an offer leaves.
+// The test for 17, the states that an offer leaves, and its answer.
 ghost use mathlib.Core.Path.{_≡_};
 ghost use Prim.Native.Nat.{_≤_, _<_};
 ghost use lib.ListN.{length};
 ghost use Rattle.totals.specs.Totals.{sumOf, most};
-ghost use Rattle.totals.specs.declared.Fate.the-variants as fate;
-ghost use Rattle.tracker.specs.Refusal.{told};
-ghost use Rattle.told.specs.Told.{gave};
-ghost use Rattle.offers.specs.Offer.{pairRefused, toldOffer, lowSeq, counting, stateWith};
+ghost use Rattle.offers.specs.Offer.{toldOffer, lowSeq, counting, stateWith};
+ghost use Rattle.offers.specs.Inner.{toldCame, RoomFor};
 use crate::Offered;
+use crate::inner;
+use crate::inner::Came;
 use totals::Fate;
 use totals::inner::one_more;
 use tracker::LastRecorded;
@@ -58,14 +58,20 @@ pub(crate) fn with_pair(table: SequenceTracker, count: usize, ts: Second) -> Seq
     }
 }
 
-// A pair that is refused for itself: the refusal is counted, and nothing else changes.
-pub(crate) fn pair_refused(table: SequenceTracker, why: Refusal) -> Offered
-    requires { ⌜ sumOf (table .totals) < most ⌝ }
-    ensures { λ r. ⌜ toldOffer r ≡ gave (pairRefused (told why) (counting fate.Refused table)) ⌝ }
+// What came of an offer, with the state after it.
+pub(crate) fn offered(table: SequenceTracker, came: Came, ts: Second) -> Offered
+    requires { ⌜ RoomFor table came ⌝ }
+    ensures { λ r. ⌜ toldOffer r ≡ toldCame table ts came ⌝ }
 {
-    let after = counted(table, Fate::Refused);
-    Offered::PairRefused {
-        why: why,
-        table: after,
+    let next = inner::after(table, came, ts);
+    match came {
+        Came::Recorded(_) => Offered::Recorded(next),
+        Came::WentBack => Offered::WentBack(next),
+        Came::TooSoon => Offered::TooSoon(next),
+        Came::PairRefused(why) => Offered::PairRefused {
+            why: why,
+            table: next,
+        },
+        Came::Full => Offered::Refused(Refusal::TotalsFull),
     }
 }

@@ -12,8 +12,7 @@ use answers::inner::answer;
 use log::Logged;
 use offers::Offered;
 use restoring::Restored;
-use tallies::inner::counted;
-use tallies::inner::none_yet;
+use tallies::inner::of_one;
 use tracker::Made;
 
 pub fn of_made(made: Made) -> TableAnswer
@@ -28,7 +27,7 @@ pub fn of_made(made: Made) -> TableAnswer
 pub fn of_offered(offered: Offered) -> TableAnswer
     ensures { λ r. ⌜ r ≡ ofOffer (toldOffer offered) ⌝ }
 {
-    let tally = counted(none_yet(), offered);
+    let tally = of_one(offered);
     match offered {
         Offered::Recorded(table) => tables::with_table(answer(0, 0, 0, 0), table, tally),
         Offered::WentBack(table) => tables::with_table(answer(0, 0, 0, 0), table, tally),

@@ -1,6 +1,7 @@
 use borrow.Author.Needs.{needs}
 use mathlib.Core.Path.{refl, sym, ap, _∙_}
 use Rattle.tracker.specs.Refusal.{toldCheck}
+use Rattle.offers.proofs.Counted.{room-for}
 use Rattle.offers.proofs.Unique.{left-by}
 use Rattle.offers.proofs.offer.Statement.{statement}
 use Rattle.offers.proofs.offer.Tie as tie
@@ -16,6 +17,12 @@ offer-good-requires c κs =
     let told = c .before .before in
     sym (told .before .before .check .ensures) ∙ ap toldCheck (told .enum-told .given .1)
 
+offered-requires : tie.Need-offered-requires
+offered-requires c κs =
+    let good = c .before .before .before in
+    let a = good .before .before .before .before .before .before .before .before .before .args in
+    room-for (record { state = a .table; seqs = a .seqs .now; secs = a .secs .now }) (a .seq) (a .ts) (good .offer-good .result) (good .offer-good .ensures .0)
+
 enum-known-checked : tie.Need-enum-known-checked
 enum-known-checked c = search needs
 
@@ -26,7 +33,7 @@ same-length-2 : tie.Need-same-length-2
 same-length-2 c = search needs
 
 returns : tie.Need-returns
-returns c = search needs
+returns c = rw (c .offered .ensures) (c .before .before .before .before .offer-good .ensures)
 
 same-length-3 : tie.Need-same-length-3
 same-length-3 c = search needs
@@ -48,6 +55,7 @@ offer-spec =
     check-requires
     enum-told
     offer-good-requires
+    offered-requires
     enum-known-checked
     same-length
     same-length-2

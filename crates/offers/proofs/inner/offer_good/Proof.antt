@@ -1,13 +1,11 @@
 use borrow.Author.Needs.{needs}
 use mathlib.Core.Path.{_≡_, refl, sym, _∙_}
 use mathlib.Core.Bool.{true, false}
-use Prim.Native.Nat.{_<_}
 use native.Mathlib.Omega.{arith}
 use mir.Syntax.{w64}
 use mir.Val.{toZ, ofZ}
 use Rattle.limits.specs.Domain.{outside}
-use Rattle.totals.specs.Totals.{sumOf, most, full}
-use Rattle.totals.proofs.Sum.{room-for-one}
+use Rattle.totals.specs.Totals.{full}
 use Rattle.tracker.proofs.Good.{Agreed, fine, count-seqs, count-secs, capacity-seqs, capacity-secs}
 use Rattle.offers.specs.Whole.{Table}
 use Rattle.offers.specs.Offer.{lowSeq}
@@ -27,9 +25,6 @@ sound c = fine (c .args .table) (c .args .seqs .now) (c .args .secs .now) (c .pr
 
 unfilled : (c : tie.Else1) → full (c .before .before .before .before .args .table .totals) ≡ false
 unfilled c = sym (c .before .full .ensures) ∙ c .if1 .left
-
-room : (c : tie.Else1) → sumOf (c .before .before .before .before .args .table .totals) < most
-room c = omega (arith, room-for-one (c .before .before .before .before .args .table .totals) (unfilled c))
 
 whole : (c : tie.After-struct-told) → let x = c .before .before .args .ts .0 in toZ w64 (ofZ w64 x) ≡ x
 whole c = search needs
@@ -62,17 +57,13 @@ returns c =
 out-of-domain-requires : tie.Need-out-of-domain-requires
 out-of-domain-requires c κs = search needs
 
-pair-refused-requires : tie.Need-pair-refused-requires
-pair-refused-requires c κs = room (c .before .before)
-
 returns-2 : tie.Need-returns-2
 returns-2 c =
-    let then2 = c .before in
-    let else1 = then2 .before .before in
+    let else1 = c .before .before in
     let told = else1 .before .before in
     let start = told .before .before in
-    let e : outside (start .args .ts .0) ≡ true = rw (← whole told) (sym (then2 .before .out-of-domain .ensures) ∙ then2 .if2 .taken) in
-    left-by (table-at start) (start .args .seq) (start .args .ts) (rw (start .pre, unfilled else1, e) (c .pair-refused .ensures)) (rw (c .pair-refused .ensures)) (rw (c .pair-refused .ensures))
+    let e : outside (start .args .ts .0) ≡ true = rw (← whole told) (sym (c .before .out-of-domain .ensures) ∙ c .if2 .taken) in
+    left-by (table-at start) (start .args .seq) (start .args .ts) (rw (start .pre, unfilled else1, e)) refl refl
 
 skips-requires : tie.Need-skips-requires
 skips-requires c κs =
@@ -83,57 +74,44 @@ skips-requires c κs =
 went-back-requires : tie.Need-went-back-requires
 went-back-requires c κs = search needs
 
-counted-requires : tie.Need-counted-requires
-counted-requires c κs = room (c .before .before .before .before .before .before)
-
 returns-3 : tie.Need-returns-3
 returns-3 c =
-    let then4 = c .before in
-    let then3 = then4 .before .before in
+    let then3 = c .before .before in
     let else2 = then3 .before .before in
     let else1 = else2 .before .before in
     let told = else1 .before .before in
     let start = told .before .before in
     let a = start .args in
-    let e : goesBack (a .table .«last_recorded_ts») (a .ts .0) ≡ true = rw (← whole told) (sym (then4 .before .went-back .ensures) ∙ then4 .if4 .taken) in
-    left-by (table-at start) (start .args .seq) (start .args .ts) (rw (start .pre, unfilled else1, inside else2, e, c .counted .ensures)) refl refl
-
-counted-requires-2 : tie.Need-counted-requires-2
-counted-requires-2 c κs = room (c .before .before .before .before .before .before)
+    let e : goesBack (a .table .«last_recorded_ts») (a .ts .0) ≡ true = rw (← whole told) (sym (c .before .went-back .ensures) ∙ c .if4 .taken) in
+    left-by (table-at start) (start .args .seq) (start .args .ts) (rw (start .pre, unfilled else1, inside else2, e)) refl refl
 
 returns-4 : tie.Need-returns-4
 returns-4 c =
-    let else4 = c .before in
-    let then3 = else4 .before .before in
+    let then3 = c .before .before in
     let else2 = then3 .before .before in
     let else1 = else2 .before .before in
     let told = else1 .before .before in
     let start = told .before .before in
     let a = start .args in
-    let e : goesBack (a .table .«last_recorded_ts») (a .ts .0) ≡ false = rw (← whole told) (sym (else4 .before .went-back .ensures) ∙ else4 .if4 .left) in
+    let e : goesBack (a .table .«last_recorded_ts») (a .ts .0) ≡ false = rw (← whole told) (sym (c .before .went-back .ensures) ∙ c .if4 .left) in
     left-by (table-at start) (start .args .seq) (start .args .ts)
-    (rw (start .pre, unfilled else1, inside else2, e, else-soon (a .table .«last_recorded_ts») (a .table .«interval_secs») (a .ts .0) (skip then3) e, c .counted2 .ensures)) refl refl
+    (rw (start .pre, unfilled else1, inside else2, e, else-soon (a .table .«last_recorded_ts») (a .table .«interval_secs») (a .ts .0) (skip then3) e)) refl refl
 
 low-seq-requires : tie.Need-low-seq-requires
 low-seq-requires c κs = count-seqs _ _ _ (sound (c .before .before .before .before .before .before .before .before .before))
-
-pair-refused-requires-2 : tie.Need-pair-refused-requires-2
-pair-refused-requires-2 c κs = room (c .before .before .before .before .before .before .before)
 
 same-length : tie.Need-same-length
 same-length c = search needs
 
 returns-5 : tie.Need-returns-5
 returns-5 c =
-    let then5 = c .before in
-    let else3 = then5 .before .before .before in
+    let else3 = c .before .before .before in
     let else2 = else3 .before .before in
     let else1 = else2 .before .before in
     let told = else1 .before .before in
     let start = told .before .before in
     left-by (table-at start) (start .args .seq) (start .args .ts)
-    (rw (start .pre, unfilled else1, inside else2, no-skip else3 .0, no-skip else3 .1, sym (then5 .before .low-seq .ensures) ∙ then5 .if5 .taken) (c .pair-refused2 .ensures))
-    (rw (c .pair-refused2 .ensures)) (rw (c .pair-refused2 .ensures))
+    (rw (start .pre, unfilled else1, inside else2, no-skip else3 .0, no-skip else3 .1, sym (c .before .low-seq .ensures) ∙ c .if5 .taken)) refl refl
 
 cast-capacity : tie.Need-cast-capacity
 cast-capacity c = search needs
@@ -151,11 +129,6 @@ sec-keep-requires c κs =
     let a = sound (else3 .before .before .before .before .before .before .before .before) in
     (count-secs _ _ _ a, capacity-secs _ _ _ a .0, capacity-secs _ _ _ a .1)
 
-with-pair-requires : tie.Need-with-pair-requires
-with-pair-requires c κs =
-    let else5 = c .before .before .before .before .before .before .before .before in
-    room (else5 .before .before .before .before .before .before .before)
-
 same-length-2 : tie.Need-same-length-2
 same-length-2 c = search needs
 
@@ -164,7 +137,7 @@ same-length-3 c = search needs
 
 returns-6 : tie.Need-returns-6
 returns-6 c =
-    let secs = c .before .before in
+    let secs = c .before in
     let seqs = secs .before .before .before .before in
     let else5 = seqs .before .before .before in
     let else3 = else5 .before .before .before in
@@ -175,7 +148,7 @@ returns-6 c =
     let a = start .args in
     let length-is = thinned-length (a .table .count) (a .seqs .now) (a .seq .0) (count-seqs _ _ _ (sound start)) (a .table .capacity) in
     left-by (table-at start) (start .args .seq) (start .args .ts)
-    (rw (start .pre, unfilled else1, inside else2, no-skip else3 .0, no-skip else3 .1, rising else5, length-is, ← seqs .seq-keep .ensures .0, c .with-pair .ensures))
+    (rw (start .pre, unfilled else1, inside else2, no-skip else3 .0, no-skip else3 .1, rising else5, length-is, ← seqs .seq-keep .ensures .0))
     (seqs .seq-keep .ensures .1)
     (rw (whole told) at (secs .sec-keep .ensures))
 
@@ -186,22 +159,17 @@ offer-good-spec =
     full-requires
     returns
     out-of-domain-requires
-    pair-refused-requires
     returns-2
     skips-requires
     went-back-requires
-    counted-requires
     returns-3
-    counted-requires-2
     returns-4
     low-seq-requires
-    pair-refused-requires-2
     same-length
     returns-5
     cast-capacity
     seq-keep-requires
     sec-keep-requires
-    with-pair-requires
     same-length-2
     same-length-3
     returns-6)

@@ -1,13 +1,9 @@
 use borrow.Author.Needs.{needs}
-use native.Mathlib.Omega.{arith}
 use Rattle.table_answers.proofs.calls.of_offered.Statement.{statement}
 use Rattle.table_answers.proofs.calls.of_offered.Tie as tie
 
-none-yet-requires : tie.Need-none-yet-requires
-none-yet-requires c κs = search needs
-
-counted-requires : tie.Need-counted-requires
-counted-requires c κs = rw (c .none-yet .ensures) (omega arith)
+of-one-requires : tie.Need-of-one-requires
+of-one-requires c κs = search needs
 
 enum-known-offered : tie.Need-enum-known-offered
 enum-known-offered c = search needs
@@ -56,23 +52,23 @@ no-table-requires c κs = search needs
 
 returns : tie.Need-returns
 returns c =
-    let counted = c .before .before .before .before .before in
-    rw (c .with-table .ensures, c .before .answer .ensures, counted .counted .ensures, counted .before .none-yet .ensures, c .before .before .before .offered .given .1)
+    let one = c .before .before .before .before .before in
+    rw (c .with-table .ensures, c .before .answer .ensures, one .of-one .ensures, c .before .before .before .offered .given .1)
 
 returns-2 : tie.Need-returns-2
 returns-2 c =
-    let counted = c .before .before .before .before .before in
-    rw (c .with-table2 .ensures, c .before .answer2 .ensures, counted .counted .ensures, counted .before .none-yet .ensures, c .before .before .before .offered2 .given .1)
+    let one = c .before .before .before .before .before in
+    rw (c .with-table2 .ensures, c .before .answer2 .ensures, one .of-one .ensures, c .before .before .before .offered2 .given .1)
 
 returns-3 : tie.Need-returns-3
 returns-3 c =
-    let counted = c .before .before .before .before .before in
-    rw (c .with-table3 .ensures, c .before .answer3 .ensures, counted .counted .ensures, counted .before .none-yet .ensures, c .before .before .before .offered3 .given .1)
+    let one = c .before .before .before .before .before in
+    rw (c .with-table3 .ensures, c .before .answer3 .ensures, one .of-one .ensures, c .before .before .before .offered3 .given .1)
 
 returns-4 : tie.Need-returns-4
 returns-4 c =
-    let counted = c .before .before .before .before .before in
-    rw (c .with-table4 .ensures, c .before .of-table .ensures, counted .counted .ensures, counted .before .none-yet .ensures, c .before .before .before .offered4 .given .1)
+    let one = c .before .before .before .before .before in
+    rw (c .with-table4 .ensures, c .before .of-table .ensures, one .of-one .ensures, c .before .before .before .offered4 .given .1)
 
 returns-5 : tie.Need-returns-5
 returns-5 c = rw (c .no-table .ensures, c .before .of-table2 .ensures, c .before .before .before .offered5 .given .1)
@@ -81,8 +77,7 @@ pub of-offered-spec : {M : Type 1} → statement M
 of-offered-spec =
     tie.close
     (tie.spec
-    none-yet-requires
-    counted-requires
+    of-one-requires
     enum-known-offered
     answer-requires
     with-table-requires
