@@ -1,4 +1,6 @@
 //! Random inputs, the same for the same seed.
+use super::ours::Totals;
+
 pub const FIRST_SECOND: i64 = -62_135_596_800;
 pub const LAST_SECOND: i64 = 253_402_300_799;
 
@@ -52,6 +54,37 @@ impl Chance {
     pub fn bad_interval(&mut self) -> u64 {
         let any = self.word() | 1 << 63;
         self.of(&[1 << 63, u64::MAX, any])
+    }
+
+    /// How many offers a table has counted: none, as many as it may, a few less, or any number.
+    pub fn of_every_sum(&mut self) -> u64 {
+        let (less, any) = (1 + self.below(9), self.sized());
+        self.of(&[0, u64::MAX, u64::MAX - less, any])
+    }
+
+    /// Totals of this sum: some of them may be 0, and one may be all of it.
+    pub fn totals(&mut self, sum: u64) -> Totals {
+        let mut cuts = [0; 3].map(|_: u64| {
+            let any = (self.word() as u128 * (sum as u128 + 1) >> 64) as u64;
+            self.of(&[0, sum, any, any, any, any])
+        });
+        cuts.sort();
+        Totals { recorded: cuts[0], went_back: cuts[1] - cuts[0], too_soon: cuts[2] - cuts[1], refused: sum - cuts[2] }
+    }
+
+    /// Totals whose sum is above 2^64-1: by one, by any number, or so that it wraps to 0 or to a small one.
+    pub fn bad_totals(&mut self) -> Totals {
+        let any = self.word();
+        let four = self.of(&[
+            [u64::MAX, 1, 0, 0],
+            [u64::MAX, any | 1, 0, 0],
+            [u64::MAX, u64::MAX, u64::MAX, u64::MAX],
+            [1 << 63, 1 << 63, 0, 0],
+            [1 << 62, 1 << 62, 1 << 62, 1 << 62 | any >> 2],
+        ]);
+        let from = self.index(4);
+        let at = |i: usize| four[(from + i) % 4];
+        Totals { recorded: at(0), went_back: at(1), too_soon: at(2), refused: at(3) }
     }
 
     /// A difference of deltas at a row's limit, one beyond, or of any size.

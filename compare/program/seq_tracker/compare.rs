@@ -17,6 +17,7 @@ mod stops;
 mod stores;
 mod tally;
 mod theirs;
+mod totals;
 
 use chance::Chance;
 use tally::Tally;
@@ -66,6 +67,7 @@ pub(crate) fn main(words: Vec<String>) -> i32 {
         lookups::random(&mut tally, &mut chance);
         stores::random(&mut tally, &mut chance);
         refusals::random(&mut tally, &mut chance);
+        totals::random(&mut tally, &mut chance);
     }
     tally.print();
     0

@@ -1,10 +1,10 @@
 //! Lists of offers and `extend_from`: the numbers recorded and skipped, the refused position, the table afterwards. The number of each
-//! reason is judged by the rules (docs/RULES.md) alone.
+//! reason is judged by the rules (docs/RULES.md) alone, and the totals by the comparison's own count.
 use super::super::*;
 use super::chance::{Chance, FIRST_SECOND, LAST_SECOND};
 use super::lent;
-use super::offers::{comparable, empty, second, sequence, shown, table_of};
-use super::ours::{Answer, Table, TableAnswer, NO_OFFERS, OK};
+use super::offers::{comparable, empty, go_on, second, sequence, shown, table_of};
+use super::ours::{State, Table, TableAnswer, Totals, NO_OFFERS, OK};
 use super::readers::unfit;
 use super::refusals::{no_table, told};
 use super::tally::Tally;
@@ -28,54 +28,73 @@ impl Held {
     }
 }
 
-/// The records offered in order to the Rust's table, up to the first refusal.
-fn offered(t: &mut SequenceTracker, held: &mut Held, seqs: &[u64], secs: &[i64]) -> TableAnswer {
+/// The records offered in order to the Rust's table, up to the first refusal, and each counted from these totals on; the one refused by 31 is not.
+fn offered(t: &mut SequenceTracker, mut totals: Totals, held: &mut Held, seqs: &[u64], secs: &[i64]) -> TableAnswer {
     let (mut counts, mut answer) = (NO_OFFERS, OK);
     for (i, (&seq, &sec)) in seqs.iter().zip(secs).enumerate() {
+        if theirs::full(totals) {
+            answer = told(31, i as u64, 0);
+            break;
+        }
         let stood = t.sequence_numbers.len();
         let outcome = theirs::offer(t, seq, sec);
         counts = outcome.counted(counts);
+        totals = outcome.totalled(totals);
         match outcome {
             Offer::Recorded => held.recorded(t, stood),
             Offer::Skipped(_) => {}
-            Offer::Refused => {
-                answer = Answer { number: 17, a: i as u64, ..OK };
+            Offer::Refused(number) => {
+                answer = told(number, i as u64, 0);
                 break;
             }
         }
     }
-    TableAnswer { answer, tally: counts, state: theirs::state(t) }
+    TableAnswer { answer, tally: counts, state: State { totals, ..theirs::state(t) } }
 }
 
-/// The kinds of a list's answer: by how it ended, compared with the Rust, and by why offers were skipped, held to the rules.
+/// The kinds of a list's answer: by how it ended, compared with the Rust (16 and 31 it does not have: these are held to the rules), and by why offers were skipped,
+/// held to the rules.
 struct Kinds {
     ended: &'static str,
-    stopped: &'static str,
+    stopped: [(u32, &'static str); 3],
     went_back: &'static str,
     too_soon: &'static str,
     both: &'static str,
+    totals: &'static str,
 }
 
 const LISTS: Kinds = Kinds {
     ended: "lists of offers",
-    stopped: "lists of offers stopped, 17",
+    stopped: [(16, "lists of offers stopped, 16"), (17, "lists of offers stopped, 17"), (31, "lists of offers stopped, 31")],
     went_back: "lists of offers, some went back, none too soon",
     too_soon: "lists of offers, some too soon, none went back",
     both: "lists of offers, some went back and some too soon",
+    totals: "totals after lists of offers",
 };
 
 const EXTENSIONS: Kinds = Kinds {
     ended: "extensions from another table",
-    stopped: "extensions from another table stopped, 17",
+    // 16 is not met: a good table's seconds are in the domain
+    stopped: [
+        (16, "extensions from another table stopped, 16"),
+        (17, "extensions from another table stopped, 17"),
+        (31, "extensions from another table stopped, 31"),
+    ],
     went_back: "extensions from another table, some went back, none too soon",
     too_soon: "extensions from another table, some too soon, none went back",
     both: "extensions from another table, some went back and some too soon",
+    totals: "totals after extensions from another table",
 };
 
 /// Compares our answer and the arrays. Our table goes on from there.
 fn compare(tally: &mut Tally, kinds: Kinds, input: impl Fn() -> String, theirs: TableAnswer, held: Held, answer: TableAnswer, ours: &mut Table) {
-    let kind = if theirs.answer.number == 0 { kinds.ended } else { kinds.stopped };
-    tally.same(kind, &input, &comparable(&theirs), &comparable(&answer));
+    let number = theirs.answer.number;
+    let kind = kinds.stopped.iter().find(|stopped| stopped.0 == number).map_or(kinds.ended, |stopped| stopped.1);
+    if [16, 31].contains(&number) {
+        tally.ruled(kind, &input, &comparable(&theirs), &comparable(&answer));
+    } else {
+        tally.same(kind, &input, &comparable(&theirs), &comparable(&answer));
+    }
     let why = match (theirs.tally.went_back, theirs.tally.too_soon) {
         (0, 0) => None,
         (_, 0) => Some(kinds.went_back),
@@ -86,31 +105,35 @@ fn compare(tally: &mut Tally, kinds: Kinds, input: impl Fn() -> String, theirs: 
         tally.ruled(why, &input, &theirs.tally, &answer.tally);
     }
     tally.holds(kind, &input, &(held.seqs, held.secs), &(ours.seqs.all(), ours.secs.all()));
-    ours.state = answer.state;
+    go_on(tally, kinds.totals, &input, ours, theirs.state.totals, answer.state);
 }
 
 /// A list of offers on both sides, and our answer.
 pub fn list(tally: &mut Tally, t: &mut SequenceTracker, ours: &mut Table, seqs: &[u64], secs: &[i64]) -> TableAnswer {
-    let (stood, mut held) = (t.clone(), Held::by(ours));
-    let theirs = offered(t, &mut held, seqs, secs);
+    let (stood, totals, mut held) = (t.clone(), ours.due, Held::by(ours));
+    let theirs = offered(t, totals, &mut held, seqs, secs);
     let answer = ours.offer_pairs(seqs, secs);
-    let input = || format!("sequences {seqs:?} and seconds {secs:?} offered to {}", shown(&stood));
+    let input = || format!("sequences {seqs:?} and seconds {secs:?} offered to {}, {totals:?}", shown(&stood));
     compare(tally, LISTS, input, theirs, held, answer, ours);
     answer
 }
 
-fn extend(tally: &mut Tally, chance: &mut Chance, t: &mut SequenceTracker, ours: &mut Table, other: &SequenceTracker) {
+/// The pairs of another table offered on both sides, and our answer.
+pub fn extend(tally: &mut Tally, chance: &mut Chance, t: &mut SequenceTracker, ours: &mut Table, other: &SequenceTracker) -> TableAnswer {
     let lent = table_of(chance, other);
     let lent_before = (lent.seqs.all(), lent.secs.all());
-    let (stood, mut held) = (t.clone(), Held::by(ours));
-    let theirs = offered(t, &mut held, &other.sequence_numbers, &other.timestamps);
-    let mut extended = stood.clone();
-    let ended = theirs::extend_from(&mut extended, other);
-    let input = || format!("{} extended from {}", shown(&stood), shown(other));
-    tally.holds("the Rust's extend_from and its inserts", input, &(ended, shown(&extended)), &(theirs.answer.number == 0, shown(t)));
+    let (stood, totals, mut held) = (t.clone(), ours.due, Held::by(ours));
+    let theirs = offered(t, totals, &mut held, &other.sequence_numbers, &other.timestamps);
+    let input = || format!("{}, {totals:?}, extended from {}", shown(&stood), shown(other));
+    if theirs.answer.number != 31 {
+        let mut extended = stood.clone();
+        let ended = theirs::extend_from(&mut extended, other);
+        tally.holds("the Rust's extend_from and its inserts", input, &(ended, shown(&extended)), &(theirs.answer.number == 0, shown(t)));
+    }
     let answer = ours.extend_from(&lent);
     tally.holds("the other table's arrays", input, &lent_before, &(lent.seqs.all(), lent.secs.all()));
     compare(tally, EXTENSIONS, input, theirs, held, answer, ours);
+    answer
 }
 
 /// Seconds at the limits of both reasons: the last recorded one, one and two intervals after it, and the one before each of these.
@@ -158,7 +181,7 @@ pub fn exhaustive(tally: &mut Tally) {
 }
 
 /// Another table, about the pairs of this one.
-fn another(chance: &mut Chance, t: &SequenceTracker) -> SequenceTracker {
+pub fn another(chance: &mut Chance, t: &SequenceTracker) -> SequenceTracker {
     let n = chance.index(12);
     let (seqs, secs) = (rising_from(chance, t, n), chance.secs(n));
     let capacity = n as u32 + chance.below(3) as u32;
@@ -185,13 +208,15 @@ pub fn log(chance: &mut Chance, t: &SequenceTracker, n: usize, interval: u64) ->
         seqs.push(seq);
         secs.push(sec);
         last_seq = last_seq.max(Some(seq));
-        last_sec = last_sec.max(Some(sec));
+        if (FIRST_SECOND..=LAST_SECOND).contains(&sec) {
+            last_sec = last_sec.max(Some(sec));
+        }
     }
     (seqs, secs)
 }
 
 /// A log with one entry more on one side, which only the rules (docs/RULES.md) judge: 18, and nothing changes.
-fn unequal(tally: &mut Tally, chance: &mut Chance, t: &SequenceTracker, ours: &mut Table, mut seqs: Vec<u64>, mut secs: Vec<i64>) {
+pub fn unequal(tally: &mut Tally, chance: &mut Chance, t: &SequenceTracker, ours: &mut Table, mut seqs: Vec<u64>, mut secs: Vec<i64>) {
     match chance.below(2) {
         0 => seqs.push(7),
         _ => secs.push(7),

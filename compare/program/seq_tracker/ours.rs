@@ -6,7 +6,7 @@ use super::lent::Lent;
 mod linked;
 
 /// What the library calls a tally has another name here, where a `Tally` counts comparisons.
-pub use linked::{Answer, State, TableAnswer, Tally as Counts};
+pub use linked::{Answer, State, TableAnswer, Tally as Counts, Totals};
 
 /// Number 0, and nothing more. What tells less than an answer can is 0 in the rest of it.
 pub const OK: Answer = Answer { number: 0, a: 0, b: 0, c: 0, byte: 0, bit: 0 };
@@ -14,11 +14,14 @@ pub const OK: Answer = Answer { number: 0, a: 0, b: 0, c: 0, byte: 0, bit: 0 };
 /// What is returned where no offer was made.
 pub const NO_OFFERS: Counts = Counts { recorded: 0, went_back: 0, too_soon: 0 };
 
+/// The totals of a table just made or restored, by the rules (docs/RULES.md).
+pub const NO_TOTALS: Totals = Totals { recorded: 0, went_back: 0, too_soon: 0, refused: 0 };
+
 /// The interval of `skut_new` and of `skut_restore`, by the rules (docs/RULES.md). slatedb's is another.
 pub const SKUT_INTERVAL_SECS: u64 = 10;
 
 /// What is returned where there is no state: every call refuses it.
-pub const NO_STATE: State = State { count: 0, capacity: u32::MAX, has_last: 0, interval_secs: 0, last: 0 };
+pub const NO_STATE: State = State { count: 0, capacity: u32::MAX, has_last: 0, interval_secs: 0, last: 0, totals: NO_TOTALS };
 
 pub fn sign_extend(val: u32, bits: u8) -> Answer {
     unsafe { linked::skut_sign_extend(val, bits) }
@@ -61,15 +64,32 @@ pub fn with_config(capacity: u32, interval_secs: u64) -> TableAnswer {
     unsafe { linked::skut_with_config(capacity, interval_secs) }
 }
 
-/// A table of ours: its state and the arrays that are lent with it.
+/// A table of ours: its state and the arrays that are lent with it, and the totals that the state should have. These are the comparison's own count: what
+/// the table began with, and each offer since, by what the Rust made of it.
 #[derive(Clone)]
 pub struct Table {
     pub state: State,
     pub seqs: Lent<u64>,
     pub secs: Lent<i64>,
+    pub due: Totals,
+}
+
+/// A state but for its totals, of which the Rust has none.
+pub fn but_totals(state: State) -> State {
+    State { totals: NO_TOTALS, ..state }
+}
+
+/// An answer but for the totals of its state.
+pub fn told_but_totals(said: TableAnswer) -> TableAnswer {
+    TableAnswer { state: but_totals(said.state), ..said }
 }
 
 impl Table {
+    /// The same table with other totals.
+    pub fn with_totals(&self, totals: Totals) -> Table {
+        Table { state: State { totals, ..self.state }, due: totals, ..self.clone() }
+    }
+
     /// The kept pairs.
     pub fn kept(&self) -> (&[u64], &[i64]) {
         (&self.seqs.places()[..self.state.count], &self.secs.places()[..self.state.count])

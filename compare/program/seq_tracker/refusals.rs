@@ -1,12 +1,13 @@
 //! Refusals that the Rust does not have: what the rules (docs/RULES.md) say, and that every lent place stays as it was.
 use super::chance::{Chance, FIRST_SECOND, LAST_SECOND};
 use super::lent;
-use super::offers::shown;
+use super::lists;
+use super::offers::{self, outside};
 use super::ours::{self, Answer, Table, TableAnswer, NO_OFFERS, NO_STATE, OK};
 use super::readers::unfit;
 use super::restores::due;
 use super::tally::Tally;
-use super::theirs::{self, Offer};
+use super::theirs;
 
 pub fn told(number: u32, a: u64, b: u64) -> Answer {
     Answer { number, a, b, ..OK }
@@ -27,6 +28,7 @@ fn judged(t: &Table) -> Option<Answer> {
         && t.secs.len() >= room
         && s.count <= room
         && s.has_last == (s.count != 0) as u32
+        && theirs::sum(s.totals) <= u64::MAX.into()
         && (s.has_last == 0 || domain.contains(&s.last) && s.last >= t.secs.places()[s.count - 1]);
     if !fits {
         return Some(told(14, 0, 0));
@@ -41,7 +43,9 @@ fn spoiled(chance: &mut Chance) -> Table {
     let t = theirs::table(n as u32 + chance.below(2) as u32, 60, &seqs, &secs);
     let mut state = theirs::state(&t);
     let at = chance.index(n);
-    match chance.below(13) {
+    let counted = chance.of_every_sum();
+    state.totals = chance.totals(counted);
+    match chance.below(14) {
         0 => state.capacity = chance.of(&[8193, u32::MAX, 9000]),
         1 => state.interval_secs = chance.of(&[1 << 63, u64::MAX]),
         2 => state.count = chance.of(&[0, n + 2, usize::MAX]),
@@ -54,12 +58,16 @@ fn spoiled(chance: &mut Chance) -> Table {
         9 => state.capacity += 3,
         10 => state.has_last = chance.of(&[2, 3, u32::MAX]),
         11 => seqs[at] = chance.word(),
+        12 => {
+            state.totals = chance.bad_totals();
+            seqs[at] = chance.of(&[seqs[at], 0]);
+        }
         _ => secs[at] = chance.word() as i64,
     }
     let spare = state.capacity.min(10) as usize - n.min(state.capacity.min(10) as usize);
     let less = chance.index(2);
     let short = if chance.below(8) == 0 { spare.saturating_sub(1) } else { spare };
-    Table { state, seqs: lent::seqs(chance, &seqs, spare + less), secs: lent::secs(chance, &secs, short) }
+    Table { state, seqs: lent::seqs(chance, &seqs, spare + less), secs: lent::secs(chance, &secs, short), due: state.totals }
 }
 
 /// Every call on a table that the rules refuse.
@@ -76,14 +84,18 @@ fn bad_table(tally: &mut Tally, chance: &mut Chance) {
     let mut out = lent::bytes(chance, 40);
     let clean = out.all();
     let good = theirs::table(3, 60, &[1, 2], &[5, 6]);
-    let mut own = super::offers::table_of(chance, &good);
+    let counted = chance.of_every_sum();
+    let totals = chance.totals(counted);
+    let mut own = offers::table_of(chance, &good).with_totals(totals);
     let own_before = (own.seqs.all(), own.secs.all());
+    // 31 comes after these
+    let offers = if theirs::full(t.state.totals) && rule.number < 14 { "tables refused, 11 to 13 before 31" } else { kind };
     let which = |table: u64| if rule.number == 14 { told(14, table, 0) } else { told(rule.number, rule.a, table) };
     tally.ruled(kind, input, &rule, &t.check());
-    tally.ruled(kind, input, &no_table(rule), &t.offer(chance.word(), chance.word() as i64));
-    tally.ruled(kind, input, &no_table(rule), &t.offer_pairs(&[1, 2, 3], &[1, 2, 3]));
+    tally.ruled(offers, input, &no_table(rule), &t.offer(chance.word(), chance.word() as i64));
+    tally.ruled(offers, input, &no_table(rule), &t.offer_pairs(&[1, 2, 3], &[1, 2, 3]));
     tally.ruled("lists of offers refused, 18", input, &no_table(told(18, 0, 0)), &t.offer_pairs(&[1, 2, 3], &[1, 2]));
-    tally.ruled(kind, input, &no_table(which(0)), &t.extend_from(&own));
+    tally.ruled(offers, input, &no_table(which(0)), &t.extend_from(&own));
     tally.ruled(kind, input, &no_table(which(1)), &own.extend_from(&t));
     tally.ruled(kind, input, &rule, &t.find_ts(chance.word(), 0));
     tally.ruled(kind, input, &rule, &t.find_seq(chance.word() as i64, 1));
@@ -92,24 +104,17 @@ fn bad_table(tally: &mut Tally, chance: &mut Chance) {
     tally.kept(kind, input, &(before, clean, own_before), &((t.seqs.all(), t.secs.all()), out.all(), (own.seqs.all(), own.secs.all())));
 }
 
-/// 15 and 16.
+/// 15; and 16, alone and in lists, after each of which the table goes on.
 fn settings_and_seconds(tally: &mut Tally, chance: &mut Chance) {
     let (capacity, interval) = (chance.of(&[8193, u32::MAX, 5]), chance.bad_interval());
     let input = || format!("capacity {capacity}, interval {interval}");
     tally.ruled("settings refused, 15", input, &no_table(told(15, 0, 0)), &ours::with_config(capacity, interval));
-    let t = theirs::table(4, 60, &[1, 2], &[5, 6]);
-    let mut ours = super::offers::table_of(chance, &t);
-    let sec = chance.of(&[FIRST_SECOND - 1, LAST_SECOND + 1, i64::MIN, i64::MAX]);
-    let before = (ours.seqs.all(), ours.secs.all());
-    let input = || format!("(9, {sec}) offered to {}", shown(&t));
-    tally.ruled("offers refused, 16", input, &no_table(told(16, 0, 0)), &ours.offer(9, sec));
-    tally.kept("offers refused, 16", input, &before, &(ours.seqs.all(), ours.secs.all()));
+    let mut t = theirs::table(4, 60, &[1, 2], &[5, 6]);
+    let mut ours = offers::table_of(chance, &t);
+    let sec = outside(chance);
+    offers::offer(tally, &mut t, &mut ours, 9, sec);
     for skipped in [5, 6, 7] {
-        let input = || format!("(9, {skipped}) and (9, {sec}) offered to {}", shown(&t));
-        let why = Offer::Skipped(theirs::reason(&t, skipped).expect("a second that is skipped"));
-        let stopped = TableAnswer { answer: told(16, 1, 0), tally: why.counted(NO_OFFERS), state: ours.state };
-        tally.ruled("lists of offers stopped, 16", input, &stopped, &ours.offer_pairs(&[9, 9], &[skipped, sec]));
-        tally.kept("lists of offers stopped, 16", input, &before, &(ours.seqs.all(), ours.secs.all()));
+        lists::list(tally, &mut t, &mut ours, &[9, 9], &[skipped, sec]);
     }
 }
 

@@ -2,7 +2,8 @@
 use super::super::*;
 use super::chance::Chance;
 use super::lent::{self, Lent};
-use super::ours::{self, Answer, State, Table, TableAnswer, OK};
+use super::offers::comparable;
+use super::ours::{self, Answer, State, Table, TableAnswer, NO_TOTALS, OK};
 use super::readers::{above_room, refused, unfit, Theirs};
 use super::refusals::no_table;
 use super::tally::Tally;
@@ -56,9 +57,9 @@ impl Lending {
         (&self.held.0, &self.held.1)
     }
 
-    /// Our table, in the arrays that the last restore was lent.
+    /// Our table, in the arrays that the last restore was lent, and with nothing counted.
     pub fn into_table(self, state: State) -> Table {
-        Table { state, seqs: self.seqs, secs: self.secs }
+        Table { state, seqs: self.seqs, secs: self.secs, due: NO_TOTALS }
     }
 
     /// A restore that names an interval, beside the Rust's table, whose interval is set to that one unless it is slatedb's own; and our answer.
@@ -70,7 +71,8 @@ impl Lending {
             Ok(t) => {
                 let kind = kind(0, slatedbs);
                 let set = if slatedbs { t.clone() } else { theirs::at_interval(t.clone(), interval) };
-                tally.same(kind, input, &theirs::given(&set), &ours);
+                tally.same(kind, input, &comparable(&theirs::given(&set)), &comparable(&ours));
+                tally.ruled("totals of tables restored", input, &NO_TOTALS, &ours.state.totals);
                 lent::set(&mut self.held.0, 0, &t.sequence_numbers);
                 lent::set(&mut self.held.1, 0, &t.timestamps);
                 tally.holds(kind, input, &self.held(), &self.whole());

@@ -5,7 +5,7 @@ use super::lent;
 use super::lists;
 use super::lookups;
 use super::offers::{self, made, shown, table_of};
-use super::ours::{Answer, State, Table, TableAnswer, OK};
+use super::ours::{but_totals, told_but_totals, Answer, State, Table, TableAnswer, NO_TOTALS, OK};
 use super::restores::{Lending, Restores};
 use super::tally::Tally;
 use super::theirs;
@@ -36,7 +36,7 @@ fn save(tally: &mut Tally, chance: &mut Chance, t: &SequenceTracker, ours: &Tabl
 }
 
 /// A strict save, and a restore of what it wrote, at an interval, into other arrays: our table goes on there. By the rules (docs/RULES.md) it has the same pairs, the same
-/// count and the same last recorded second, and that interval. A refused save leaves it as it is. Whether it was restored.
+/// count and the same last recorded second, that interval, and totals of 0. A refused save leaves it as it is. Whether it was restored.
 fn reload(tally: &mut Tally, chance: &mut Chance, t: &SequenceTracker, ours: &mut Table, interval: u64) -> bool {
     let image = t.to_bytes();
     let room = image.len() + chance.index(9);
@@ -48,7 +48,7 @@ fn reload(tally: &mut Tally, chance: &mut Chance, t: &SequenceTracker, ours: &mu
     let restored = lending.into_table(answer.state);
     let own = interval == ours.state.interval_secs;
     let kind = if own { "tables saved and restored at their own interval" } else { "tables saved and restored at another interval" };
-    let rule = State { interval_secs: interval, ..ours.state };
+    let rule = State { interval_secs: interval, totals: NO_TOTALS, ..ours.state };
     tally.ruled(kind, || format!("interval {interval}, {}", shown(t)), &(rule, ours.kept()), &(restored.state, restored.kept()));
     *ours = restored;
     true
@@ -79,7 +79,7 @@ fn begun(tally: &mut Tally, chance: &mut Chance, n: usize) -> (SequenceTracker, 
     (theirs::at_interval(read.expect("a good image"), interval), lending.into_table(state))
 }
 
-/// Offers to both sides, one by one or as a list, and then lookups: what ours is told of the offers.
+/// Offers to both sides, one by one or as a list, and then lookups: what ours is told of the offers, but for the totals, which each table has of its own.
 fn go_on(tally: &mut Tally, chance: &mut Chance, t: &mut SequenceTracker, ours: &mut Table, seqs: &[u64], secs: &[i64], listed: bool) -> Vec<TableAnswer> {
     let told = if listed {
         vec![lists::list(tally, t, ours, seqs, secs)]
@@ -87,11 +87,11 @@ fn go_on(tally: &mut Tally, chance: &mut Chance, t: &mut SequenceTracker, ours: 
         seqs.iter().zip(secs).map(|(&seq, &sec)| offers::offer(tally, t, ours, seq, sec)).collect()
     };
     lookups::about(tally, chance, t, ours, 2);
-    told
+    told.into_iter().map(told_but_totals).collect()
 }
 
 /// Demand 3 (docs/RULES.md): with strict saves between the offers, and restores at the table's own interval, each is told what it is told without them, and the tables
-/// stay the same. Our offers alone are held beside it, and the Rust's, alone too, beside both.
+/// stay the same, but for the totals, which a restore sets to 0. Our offers alone are held beside it, and the Rust's, alone too, beside both.
 fn with_reloads(tally: &mut Tally, chance: &mut Chance, n: usize) {
     let (mut t, mut alone) = begun(tally, chance, n);
     let mut ours = alone.clone();
@@ -104,7 +104,7 @@ fn with_reloads(tally: &mut Tally, chance: &mut Chance, n: usize) {
         let without = go_on(tally, chance, &mut t, &mut alone, &seqs, &secs, listed);
         let input = || format!("sequences {seqs:?} and seconds {secs:?} offered, as a list {listed}, to {}", shown(&stood));
         let kind = "offers with saves and restores between them, as the offers alone";
-        tally.ruled(kind, input, &(without, alone.state, alone.kept()), &(with, ours.state, ours.kept()));
+        tally.ruled(kind, input, &(without, but_totals(alone.state), alone.kept()), &(with, but_totals(ours.state), ours.kept()));
     }
 }
 

@@ -1,6 +1,7 @@
-//! The Rust's side: its answers in the numbers of the list of refusals (docs/RULES.md), and what it does not tell, why an offer was skipped.
+//! The Rust's side: its answers in the numbers of the list of refusals (docs/RULES.md), and what it does not tell: why an offer was skipped, and the totals.
 use super::super::*;
-use super::ours::{Answer, Counts, State, TableAnswer, NO_OFFERS, OK};
+use super::chance::{FIRST_SECOND, LAST_SECOND};
+use super::ours::{Answer, Counts, State, TableAnswer, Totals, NO_OFFERS, NO_TOTALS, OK};
 use super::stops;
 use std::panic::{catch_unwind, AssertUnwindSafe};
 
@@ -26,7 +27,7 @@ pub fn at_interval(t: SequenceTracker, interval_secs: u64) -> SequenceTracker {
     SequenceTracker { interval_secs, ..t }
 }
 
-/// A table's state as ours is.
+/// A table's state as ours is. The Rust has no totals.
 pub fn state(t: &SequenceTracker) -> State {
     State {
         count: t.sequence_numbers.len(),
@@ -34,6 +35,7 @@ pub fn state(t: &SequenceTracker) -> State {
         has_last: t.last_recorded_ts.is_some() as u32,
         interval_secs: t.interval_secs,
         last: t.last_recorded_ts.unwrap_or(0),
+        totals: NO_TOTALS,
     }
 }
 
@@ -62,28 +64,53 @@ pub fn reason(t: &SequenceTracker, sec: i64) -> Option<Reason> {
 pub enum Offer {
     Recorded,
     Skipped(Reason),
-    Refused,
+    /// with this number, 16 or 17
+    Refused(u32),
 }
 
 impl Offer {
-    /// The numbers with one offer more; a refused one is in none.
+    /// The tally with one offer more; a refused one is in none of its numbers.
     pub fn counted(self, so_far: Counts) -> Counts {
         match self {
             Offer::Recorded => Counts { recorded: so_far.recorded + 1, ..so_far },
             Offer::Skipped(Reason::WentBack) => Counts { went_back: so_far.went_back + 1, ..so_far },
             Offer::Skipped(Reason::TooSoon) => Counts { too_soon: so_far.too_soon + 1, ..so_far },
-            Offer::Refused => so_far,
+            Offer::Refused(_) => so_far,
+        }
+    }
+
+    /// The totals with one offer more; a refused one is in the last of them.
+    pub fn totalled(self, so_far: Totals) -> Totals {
+        match self {
+            Offer::Recorded => Totals { recorded: so_far.recorded + 1, ..so_far },
+            Offer::Skipped(Reason::WentBack) => Totals { went_back: so_far.went_back + 1, ..so_far },
+            Offer::Skipped(Reason::TooSoon) => Totals { too_soon: so_far.too_soon + 1, ..so_far },
+            Offer::Refused(_) => Totals { refused: so_far.refused + 1, ..so_far },
         }
     }
 }
 
-/// What the Rust makes of an offer. Where it skips, the reason is added; it has to skip exactly where there is one.
+/// How many offers these totals count, in a number that holds the sum of any four.
+pub fn sum(totals: Totals) -> u128 {
+    [totals.recorded, totals.went_back, totals.too_soon, totals.refused].map(u128::from).iter().sum()
+}
+
+/// Whether one more offer would pass 2^64-1: 31 is due.
+pub fn full(totals: Totals) -> bool {
+    sum(totals) + 1 > u64::MAX.into()
+}
+
+/// What the Rust makes of an offer. Where it skips, the reason is added; it has to skip exactly where there is one. A second out of domain it takes: that one is not
+/// offered to it, as 16 refuses it, by the rule.
 pub fn offer(t: &mut SequenceTracker, seq: u64, sec: i64) -> Offer {
+    if !(FIRST_SECOND..=LAST_SECOND).contains(&sec) {
+        return Offer::Refused(16);
+    }
     let (why, last, interval) = (reason(t, sec), t.last_recorded_ts, t.interval_secs);
     match (recorded(t, seq, sec), why) {
         (Some(true), None) => Offer::Recorded,
         (Some(false), Some(why)) => Offer::Skipped(why),
-        (None, None) => Offer::Refused,
+        (None, None) => Offer::Refused(17),
         (Some(false), None) => panic!("the Rust skips ({seq}, {sec}), which neither went back nor comes too soon: last recorded {last:?}, interval {interval}"),
         (_, Some(why)) => panic!("the Rust does not skip ({seq}, {sec}), by the rules {why:?}: last recorded {last:?}, interval {interval}"),
     }
