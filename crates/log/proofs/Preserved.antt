@@ -9,6 +9,7 @@ use lib.ListN.{length}
 use Rattle.told.specs.Told.{Told, gave, refused}
 use Rattle.limits.specs.Domain.{outside}
 use Rattle.totals.specs.Totals.{sumOf, most}
+use Rattle.totals.proofs.Sum.{room-for-one}
 use Rattle.tracker.specs.declared.TrackedSeq.{TrackedSeq}
 use Rattle.tracker.specs.declared.SequenceTracker.{SequenceTracker}
 use Rattle.order.proofs.Bools.{not-given}
@@ -19,18 +20,9 @@ use Rattle.offers.proofs.Counted.{reached, counts-so, sum-after}
 use Rattle.offers.proofs.Preserved.{stays-good}
 use Rattle.tallies.specs.Tally.{counted, total}
 use Rattle.tallies.specs.declared.Tally.{Tally}
-use Rattle.log.specs.Log.{Log, done, stopped, unlessStopped, runOf}
+use Rattle.log.specs.Log.{Log, unlessStopped, runOf}
 use Rattle.log.specs.Inner.{tells, afterRecord, stoppedAt}
 use Rattle.log.specs.Laws.{AddsUp}
-
--- a log leaves a good table good, and the state that it tells is that table's
-abbrev pub StateIs : Told Log → SequenceTracker → Type 0
-StateIs (gave (done t n)) state = t ≡ state
-StateIs (gave (stopped what t n)) state = t ≡ state
-StateIs (refused what) state = Unit {0}
-
-abbrev pub GoodLeft : Left (Told Log) → Type 0
-GoodLeft l = (checkIn (l .table) ≡ gave tt) × StateIs (l .answer) (l .table .state)
 
 -- what holds of both ways holds of the one that is taken
 either-way : {B : Type 0} (P : B → Type 0) (o : Told Outcome) (stop : List ℕ → B) (next : B) → ((what : List ℕ) → P (stop what)) → P next → P (unlessStopped o stop next)
@@ -40,13 +32,13 @@ either-way P (gave (tooSoon t)) stop next h k = k
 either-way P (gave (pairRefused what t)) stop next h k = h what
 either-way P (refused what) stop next h k = h what
 
-pub run-good : (w : Table) (n : Tally) (i : ℕ) (rs : List TrackedSeq) → checkIn w ≡ gave tt → GoodLeft (runOf w n i rs)
+pub run-good : (w : Table) (n : Tally) (i : ℕ) (rs : List TrackedSeq) → checkIn w ≡ gave tt → checkIn (runOf w n i rs .table) ≡ gave tt
 unfolding runOf
-run-good w n i [] g = (g, refl)
+run-good w n i [] g = g
 run-good w n i (r ∷ rs) g =
     let after = afterRecord w r in
     let still = stays-good (w .state) (w .seqs) (w .secs) (r .seq) (r .ts) (tells w r) refl g in
-    either-way GoodLeft (tells w r) (stoppedAt after n i) (runOf after (counted (tells w r) n) (i + 1) rs) (λ what. (still, refl)) (run-good after (counted (tells w r) n) (i + 1) rs still)
+    either-way (λ (l : Left (Told Log)). checkIn (l .table) ≡ gave tt) (tells w r) (stoppedAt after n i) (runOf after (counted (tells w r) n) (i + 1) rs) (λ what. still) (run-good after (counted (tells w r) n) (i + 1) rs still)
 
 -- a record whose pair is refused is refused by 16, where its second is out of domain, or by 17
 pair-refuses : (w : Table) (r : TrackedSeq) (what : List ℕ) (t : SequenceTracker) → tells w r ≡ gave (pairRefused what t) → ((what ≡ 16 ∷ []) × (outside (r .ts .0) ≡ true)) ⊎ (what ≡ 17 ∷ [])
@@ -73,27 +65,34 @@ unfoldable pub Stops : (ℕ → Type 0) → List TrackedSeq → Type 0
 Stops By [] = Unit {0}
 Stops By (r ∷ rs) = (outside (r .ts .0) ≡ true → By 16) × Stops By rs
 
--- after i records of a log on a good table, each of which was counted, the rest add up too
-pub run-adds-up : (By : ℕ → Type 0) (w : Table) (n : Tally) (i : ℕ) (rs : List TrackedSeq) → By 17 → (most < sumOf (w .state .totals) + length rs → By 31) → Stops By rs → checkIn w ≡ gave tt → total n ≡ i
-    → AddsUp By (i + length rs) (runOf w n i rs .answer)
-unfolding runOf Stops
-run-adds-up By w n i [] low fills s g h = omega (arith, h)
-run-adds-up By w n i (r ∷ rs) low fills s g h =
-    go (tells w r) refl (λ (o : Outcome) (e : tells w r ≡ gave o) (c : total (counted (gave o) n) ≡ total n + 1).
-    run-adds-up By (offeredTo w (r .seq) (r .ts) (gave o)) (counted (gave o) n) (i + 1) rs low (λ m. fills (omega (arith, m, sum-after w (r .seq) (r .ts) o e))) (s .1)
-    (stays-good (w .state) (w .seqs) (w .secs) (r .seq) (r .ts) (gave o) e g) (c ∙ ap (λ (k : ℕ). k + 1) h))
-  where
-    one : i + suc (length rs) ≡ i + 1 + length rs
-    one = omega arith
+-- after i records of a log on a good table, each of which was counted, the rest add up too; `base` is the sum of the totals before the first
+module _ (base : ℕ) (By : ℕ → Type 0) where
+  abbrev pub At : ℕ → ℕ → Type 0
+  At i number = (By number × (base + i < most)) ⊎ ((number ≡ 31) × (base + i ≡ most))
 
-    go : (o : Told Outcome) → tells w r ≡ o
-        → ((x : Outcome) → tells w r ≡ gave x → total (counted (gave x) n) ≡ total n + 1 → AddsUp By (i + 1 + length rs) (runOf (offeredTo w (r .seq) (r .ts) (gave x)) (counted (gave x) n) (i + 1) rs .answer))
-        → AddsUp By (i + suc (length rs)) (unlessStopped o (stoppedAt (offeredTo w (r .seq) (r .ts) o) n i) (runOf (offeredTo w (r .seq) (r .ts) o) (counted o n) (i + 1) rs) .answer)
-    go (gave (recorded t)) f k = rw one (k (recorded t) f (omega arith))
-    go (gave (wentBack t)) f k = rw one (k (wentBack t) f (omega arith))
-    go (gave (tooSoon t)) f k = rw one (k (tooSoon t) f (omega arith))
-    go (gave (pairRefused what t)) f k =
-        ⊎-elim (λ (e : (what ≡ 16 ∷ []) × (outside (r .ts .0) ≡ true)). (omega (arith, h), 16, s .0 (e .1), rw (e .0, h)))
-        (λ (e : what ≡ 17 ∷ []). (omega (arith, h), 17, low, rw (e, h)))
-        (pair-refuses w r what t f)
-    go (refused what) f k = let e = uncounted w r what g f in (omega (arith, h), 31, fills (omega (arith, e .0)), rw (e .1, h))
+  pub run-adds-up : (w : Table) (n : Tally) (i : ℕ) (rs : List TrackedSeq) → By 17 → Stops By rs → checkIn w ≡ gave tt → total n ≡ i → sumOf (w .state .totals) ≡ base + i
+      → AddsUp At (i + length rs) (runOf w n i rs .answer)
+  unfolding runOf Stops
+  run-adds-up w n i [] low s g h b = omega (arith, h)
+  run-adds-up w n i (r ∷ rs) low s g h b =
+      go (tells w r) refl (λ (o : Outcome) (e : tells w r ≡ gave o) (c : total (counted (gave o) n) ≡ total n + 1).
+      run-adds-up (offeredTo w (r .seq) (r .ts) (gave o)) (counted (gave o) n) (i + 1) rs low (s .1)
+      (stays-good (w .state) (w .seqs) (w .secs) (r .seq) (r .ts) (gave o) e g) (c ∙ ap (λ (k : ℕ). k + 1) h) (omega (arith, b, sum-after w (r .seq) (r .ts) o e)))
+    where
+      one : i + suc (length rs) ≡ i + 1 + length rs
+      one = omega arith
+
+      roomy : (what : List ℕ) (t : SequenceTracker) → tells w r ≡ gave (pairRefused what t) → base + total n < most
+      roomy what t f = let q = room-for-one (w .state .totals) (reached w (r .seq) (r .ts) (pairRefused what t) f .room) in omega (arith, q, b, h)
+
+      go : (o : Told Outcome) → tells w r ≡ o
+          → ((x : Outcome) → tells w r ≡ gave x → total (counted (gave x) n) ≡ total n + 1 → AddsUp At (i + 1 + length rs) (runOf (offeredTo w (r .seq) (r .ts) (gave x)) (counted (gave x) n) (i + 1) rs .answer))
+          → AddsUp At (i + suc (length rs)) (unlessStopped o (stoppedAt (offeredTo w (r .seq) (r .ts) o) n i) (runOf (offeredTo w (r .seq) (r .ts) o) (counted o n) (i + 1) rs) .answer)
+      go (gave (recorded t)) f k = rw one (k (recorded t) f (omega arith))
+      go (gave (wentBack t)) f k = rw one (k (wentBack t) f (omega arith))
+      go (gave (tooSoon t)) f k = rw one (k (tooSoon t) f (omega arith))
+      go (gave (pairRefused what t)) f k =
+          ⊎-elim (λ (e : (what ≡ 16 ∷ []) × (outside (r .ts .0) ≡ true)). (omega (arith, h), 16, inl (s .0 (e .1), roomy what t f), rw (e .0, h)))
+          (λ (e : what ≡ 17 ∷ []). (omega (arith, h), 17, inl (low, roomy what t f), rw (e, h)))
+          (pair-refuses w r what t f)
+      go (refused what) f k = let e = uncounted w r what g f in (omega (arith, h), 31, inr (refl, omega (arith, e .0, b, h)), rw (e .1, h))

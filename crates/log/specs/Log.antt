@@ -41,7 +41,7 @@ unlessStopped (gave (tooSoon t)) stop next = next
 unlessStopped (gave (pairRefused what t)) stop next = stop what
 unlessStopped (refused what) stop next = stop what
 
--- the records from position i on, in order, up to the first refusal; the state is the one that the last offer left, the refused one too
+-- the records from position i on, in order, up to the first refusal; the state is the one that the last offer left, be that the refused one
 unfoldable pub runOf : Table → Tally → ℕ → List TrackedSeq → Left (Told Log)
 runOf w n i [] = leaving (gave (done (w .state) n)) w
 runOf w n i (r ∷ rs) =

@@ -6,9 +6,9 @@ use tracker::SequenceTracker;
 
 pub mod inner; // inner.rt: a log record by record, for our own crates
 
-// What came of a log: all records offered; stopped at the record `at`, with the state as its offer left it: where that was
-// refused with 16 or 17 this is counted, with 31 the state is as the offers before it left it; or refused before the first record, because a table is bad (where there are two, the own or the other), or because the two
-// lists of records differ in length.
+// What came of a log: all records offered; stopped at the record `at`, with the state that its offer left: refused with 16 or 17
+// it is counted there, with 31 it is not; or refused before the first record, because a table is bad (where there are two, the own
+// or the other), or because the two lists of records differ in length.
 pub enum Logged {
     Done {
         table: SequenceTracker,

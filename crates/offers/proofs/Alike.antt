@@ -6,16 +6,15 @@ use Prim.Native.Nat.{ℕ, zero, suc, _+_, _-_, _≤_}
 use native.Mathlib.Omega.{arith}
 use borrow.Author.Tests.{le-ltb}
 use lib.Dec.{ltb}
-use lib.IntN.{ℤ}
 use lib.ListN.{length, take}
 use Rattle.told.specs.Told.{Told, gave, refused, ifGood}
 use Rattle.limits.specs.Domain.{outside}
 use Rattle.limits.specs.Settings.{roomOf}
-use Rattle.totals.specs.Totals.{sumOf, most, noTotals, full, oneMore}
+use Rattle.totals.specs.Totals.{sumOf, most, noTotals, oneMore}
 use Rattle.totals.specs.declared.Totals.{Totals}
 use Rattle.totals.specs.declared.Fate.{Fate}
 use Rattle.totals.specs.declared.Fate.the-variants as fate
-use Rattle.totals.proofs.Sum.{not-full, not-too-many}
+use Rattle.totals.proofs.Sum.{not-full}
 use Rattle.tracker.specs.Rest.{withTotals, restOf}
 use Rattle.tracker.specs.Table.{kept, checkOf}
 use Rattle.tracker.specs.declared.Seq.{Seq}
@@ -23,7 +22,7 @@ use Rattle.tracker.specs.declared.Second.{Second}
 use Rattle.tracker.specs.declared.SequenceTracker.{SequenceTracker}
 use Rattle.tracker.proofs.Good.{fine}
 use Rattle.tracker.proofs.Kept.{kept-at, check-kept}
-use Rattle.tracker.proofs.Rest.{by-rest, check-totals}
+use Rattle.tracker.proofs.Rest.{by-rest, fit-check}
 use Rattle.skipping.specs.Reasons.{goesBack, comesTooSoon}
 use Rattle.keeping.specs.Keep.{keptWith}
 use Rattle.offers.specs.Whole.{Table, whole, checkIn}
@@ -84,7 +83,7 @@ module _ (w v : Table) (a : Alike w v) (fits : sumOf (w .state .totals) ≤ most
   alike-check =
       by-rest (λ (u : SequenceTracker). checkIn w ≡ checkOf u (v .seqs) (v .secs)) (w .state) (v .state) (a .same-rest)
       (check-kept (w .state) (w .seqs) (v .seqs) (w .secs) (v .secs) (kept-seqs a) (kept-secs a) (same-rooms a .0) (same-rooms a .1)
-      ∙ sym (check-totals (w .state) (v .state .totals) (v .seqs) (v .secs) (not-too-many _ fits′ ∙ sym (not-too-many _ fits))))
+      ∙ fit-check (w .state) (v .state .totals) (v .seqs) (v .secs) fits fits′)
 
 module _ (seq : Seq) (ts : Second) where
   -- of a state with other totals the same comes, with totals of its own

@@ -1,18 +1,18 @@
 -- What an offer counts, by what it tells.
-use mathlib.Core.Path.{_≡_, refl, sym, ap, subst, _∙_}
-use mathlib.Core.Logic.{_⊎_, inl, inr}
+use mathlib.Core.Path.{_≡_, refl, sym, ap, subst}
+use mathlib.Core.Logic.{inl, inr}
 use mathlib.Core.Bool.{Bool, true, false, cond}
-use mathlib.Core.List.{List, [], _∷_}
-use Prim.Native.Nat.{ℕ, _+_, _≤_, _<_}
+use mathlib.Core.List.{[], _∷_}
+use Prim.Native.Nat.{_+_, _≤_, _<_}
 use native.Mathlib.Omega.{arith}
 use borrow.Author.Tests.{ltb-true}
 use Rattle.told.specs.Told.{Told, gave, refused, ifGood}
-use Rattle.told.proofs.Unique.{same-gift, same-list}
+use Rattle.told.proofs.Unique.{same-gift}
 use Rattle.limits.specs.Domain.{outside}
 use Rattle.totals.specs.Totals.{sumOf, most, full, oneMore}
 use Rattle.totals.specs.declared.Totals.{Totals}
 use Rattle.totals.specs.declared.Fate.the-variants as fate
-use Rattle.totals.proofs.Sum.{sum-more, room-for-one}
+use Rattle.totals.proofs.Sum.{sum-more, room-for-one, not-full}
 use Rattle.tracker.specs.declared.Seq.{Seq}
 use Rattle.tracker.specs.declared.Second.{Second}
 use Rattle.tracker.proofs.Good.{fine}
@@ -20,7 +20,7 @@ use Rattle.order.proofs.Bools.{not-given, passed}
 use Rattle.skipping.specs.Reasons.{goesBack, comesTooSoon}
 use Rattle.offers.specs.Whole.{Table, checkIn}
 use Rattle.offers.specs.Offer.{Outcome, recorded, wentBack, tooSoon, pairRefused, lowSeq, outcomeOf, offerTo, offeredTo}
-use Rattle.offers.specs.Counted.{Counts, OfferCounts}
+use Rattle.offers.specs.Counted.{Counts, OfferCounts, CountedExactly}
 use Rattle.offers.specs.Inner.{toldCame, RoomFor}
 use Rattle.offers.specs.declared.inner.Came.{Came}
 use Rattle.offers.specs.declared.inner.Came.the-variants.{Recorded, WentBack, TooSoon, PairRefused, Full}
@@ -114,3 +114,9 @@ module _ (w : Table) (seq : Seq) (ts : Second) where
 
 pub offers-count : OfferCounts
 offers-count = offer-counts
+
+pub counted-exactly : CountedExactly
+counted-exactly w seq ts = (
+  λ h. let r = reached w seq ts (h .0) (h .1) in (r .good, omega (arith, room-for-one (w .state .totals) (r .room))),
+  λ h. (outcomeOf w seq ts, rw (h .0, not-full (w .state .totals) (omega (arith, h .1)))),
+)

@@ -1,7 +1,7 @@
 -- What an offer changes of the state, and when it is not counted. Proved in proofs/Counted.antt.
-use Prim.Native.Nat.{ℕ}
+use Prim.Native.Nat.{ℕ, _<_}
 use mathlib.Core.Path.{_≡_}
-use mathlib.Core.Logic.{_⊎_}
+use mathlib.Core.Logic.{_⊎_, _↔_}
 use mathlib.Core.List.{List, [], _∷_}
 use Rattle.told.specs.Told.{Told, gave, refused}
 use Rattle.totals.specs.Totals.{sumOf, most, oneMore}
@@ -26,3 +26,7 @@ Counts w (refused what) = (checkIn w ≡ refused what) ⊎ ((checkIn w ≡ gave 
 
 abbrev pub OfferCounts : Type 0
 OfferCounts = (w : Table) (seq : Seq) (ts : Second) → Counts w (offerTo w seq ts)
+
+-- it is counted exactly where the table is good and its totals leave room for one more
+abbrev pub CountedExactly : Type 0
+CountedExactly = (w : Table) (seq : Seq) (ts : Second) → ((o : Outcome) × (offerTo w seq ts ≡ gave o)) ↔ ((checkIn w ≡ gave tt) × (sumOf (w .state .totals) < most))

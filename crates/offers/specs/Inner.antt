@@ -1,5 +1,5 @@
 -- What our own functions promise each other. No public statement cites this file.
-use Prim.Native.Nat.{ℕ, _<_}
+use Prim.Native.Nat.{_<_}
 use mathlib.Core.List.{[], _∷_}
 use Rattle.told.specs.Told.{Told, gave, refused}
 use Rattle.totals.specs.Totals.{sumOf, most}

@@ -25,7 +25,7 @@ pub enum Came {
     Full,
 }
 
-// A recorded pair leaves a good table good, so a list of offers checks its table once.
+// An offer leaves a good table good, so a list of offers checks its table once.
 pub fn offer_good(
     table: SequenceTracker,
     seqs: &mut [u64],

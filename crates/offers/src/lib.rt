@@ -1,4 +1,5 @@
-// One offer to a table: a pair is recorded, skipped, with the reason, or refused, and the offer is counted.
+// One offer to a table: a pair is recorded, skipped, with the reason, or refused; and, unless the table is bad or its totals are full, the
+// offer is counted.
 ghost use Rattle.offers.specs.Whole.{whole, Leaves};
 ghost use Rattle.offers.specs.Offer.{toldOffer, offering};
 use tracker::Checked;

@@ -8,7 +8,7 @@ use Rattle.tallies.specs.declared.Tally.{Tally}
 abbrev pub noneYet : Tally
 noneYet = record { recorded = 0; «went_back» = 0; «too_soon» = 0 }
 
--- one more that was recorded, went back or came too soon, as an offer told; one that was refused is not counted
+-- one more that was recorded, went back or came too soon, as an offer told; one that was refused is in none of the three
 abbrev pub counted : Told Outcome → Tally → Tally
 counted (gave (recorded t)) n = record { recorded = n .recorded + 1; «went_back» = n .«went_back»; «too_soon» = n .«too_soon» }
 counted (gave (wentBack t)) n = record { recorded = n .recorded; «went_back» = n .«went_back» + 1; «too_soon» = n .«too_soon» }

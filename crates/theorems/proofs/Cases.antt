@@ -11,6 +11,7 @@ use Rattle.gorilla.specs.Rows.{rowOf, strict}
 use Rattle.gorilla.specs.Wide.{wideAfter, wideIn, wideOf}
 use Rattle.keeping.specs.Keep.{evens}
 use Rattle.log.specs.Log.{runOf}
+use Rattle.log.specs.Pairs.{recordsOf}
 use Rattle.encoder.specs.Encode.{arraysRule, roomRule}
 use Rattle.decoder.specs.Decode.{listed}
 use Rattle.text.specs.Text.{digits, decimal, signedDecimal}
@@ -20,7 +21,7 @@ use Rattle.theorems.specs.Run.{step, ranTo}
 use Rattle.theorems.specs.Cases.{Cases}
 
 pub cases : Cases
-unfolding readRule posOf arraysRule roomRule imageBytes leBytes arrayBits valuesBits codesBits codeBits rowOf packed bytesOf natFrom natBits wideOf wideIn wideAfter strict ranTo step runOf firstFrom evens lastOr listed readPairs readPart leCount readArray readValues valuesAfter readCodes readCode countOnes cutNumber takeBits bitsOf digits decimal signedDecimal line lines entriesText refusedText listingOf
+unfolding readRule posOf arraysRule roomRule imageBytes leBytes arrayBits valuesBits codesBits codeBits rowOf packed bytesOf natFrom natBits wideOf wideIn wideAfter strict ranTo step runOf recordsOf firstFrom evens lastOr listed readPairs readPart leCount readArray readValues valuesAfter readCodes readCode countOnes cutNumber takeBits bitsOf digits decimal signedDecimal line lines entriesText refusedText listingOf
 cases = record {
   extension = (refl, refl);
   extension-edges = (refl, refl, refl, refl, refl, refl);
@@ -48,6 +49,7 @@ cases = record {
   totals = (refl, refl, refl);
   totals-full = (refl, refl, refl, refl);
   totals-full-in-list = refl;
+  totals-full-no-record = (refl, refl);
   P12 = (refl, refl, refl, refl);
   equal-seconds = ((refl, refl), (refl, refl), (refl, refl));
   equal-sequences = (refl, refl);

@@ -30,7 +30,7 @@ use Rattle.theorems.proofs.Restored.{restored-sound}
 use Rattle.theorems.proofs.Reload.{save-is, restores, reload-sound, reload-alike, reload-counts}
 use Rattle.theorems.proofs.Exact.{refuses, with-20, writes}
 use Rattle.theorems.proofs.Logged.{kept-same}
-use Rattle.theorems.proofs.Alike.{answer-alike}
+use Rattle.theorems.proofs.Alike.{kept-alike}
 use Rattle.theorems.proofs.Totals.{made-zero, restored-zero}
 
 -- what a run at this interval keeps up, of the table w that it has led to and the table v of the offers alone, with room for k more offers
@@ -70,7 +70,7 @@ unharmed interval m w v K = record {
   good = K .sound .good;
   pairs = kept-same w v (K .alike);
   state = K .alike .same-rest;
-  answers = answer-alike m w v (K .sound .good) (K .sound′ .good) (K .alike) (K .room) (K .room′);
+  alike = kept-alike m w v (K .sound .good) (K .sound′ .good) (K .alike) (K .room) (K .room′);
   restores = λ l n v h e. restores interval w (K .sound) l n e v h;
   exact = λ l room lent. (refuses interval w (K .sound) l lent room, with-20 interval w (K .sound) l lent room, writes interval w (K .sound) l lent room);
 }

@@ -1,41 +1,79 @@
 -- What the totals count.
 use mathlib.Core.Path.{_≡_, refl, sym, ap, _∙_}
 use mathlib.Core.Bool.{Bool, true, false, cond}
+use mathlib.Core.Logic.{⊎-elim}
 use mathlib.Core.List.{List, [], _∷_}
-use Prim.Native.Nat.{ℕ}
+use Prim.Native.Nat.{ℕ, suc, _+_}
 use native.Mathlib.Omega.{arith}
-use lib.IntN.{ℤ}
+use lib.Dec.{ltb}
+use lib.Signed.{ltZ}
+use lib.IntN.{ℤ, pos}
 use lib.ListN.{length}
 use Rattle.told.specs.Told.{Told, gave, refused, ifGood}
-use Rattle.told.proofs.Unique.{same-gift, given-not-refused}
+use Rattle.told.proofs.Unique.{same-gift, same-list, given-not-refused}
 use Rattle.gorilla.specs.Parser.{Read, read}
 use Rattle.gorilla.specs.Parser as parser
 use Rattle.gorilla.specs.Reading.{Pairs}
 use Rattle.limits.specs.Settings.{badSettings}
-use Rattle.order.proofs.Bools.{passed, not-given}
-use Rattle.totals.specs.Totals.{noTotals}
+use Rattle.order.specs.First.{first}
+use Rattle.order.specs.Order.{drops, secOutside}
+use Rattle.order.proofs.Bools.{passed}
+use Rattle.totals.specs.Totals.{noTotals, sumOf, most}
 use Rattle.totals.specs.declared.Totals.{Totals}
-use Rattle.tracker.specs.Table.{pairsOf}
+use Rattle.tracker.specs.Table.{pairsOf, disagrees}
 use Rattle.tracker.specs.declared.TrackedSeq.{TrackedSeq}
 use Rattle.tracker.specs.declared.SequenceTracker.{SequenceTracker}
 use Rattle.fresh.specs.Fresh.{defaultCapacity, emptyTable, freshTable, configOf}
 use Rattle.settling.specs.Settle.{lastOf}
-use Rattle.offers.specs.Whole.{Table}
+use Rattle.offers.specs.Whole.{Table, checkIn}
 use Rattle.offers.specs.Offer.{Outcome, recorded, wentBack, tooSoon, pairRefused, offerTo}
-use Rattle.offers.proofs.Counted.{totalsWith, totals-after}
+use Rattle.offers.specs.Counted.{Counts}
+use Rattle.offers.proofs.Counted.{totalsWith, counts-so, totals-after}
 use Rattle.restoring.specs.Restore.{readTable, judged, tooShort, readInto, restoreAt}
 use Rattle.theorems.specs.Run.{offered, step, ranTo, answers}
 use Rattle.theorems.specs.Lists.{offersOf}
-use Rattle.theorems.specs.Totals.{howMany, CountedBy, TotalsCount}
+use Rattle.theorems.specs.Totals.{wasRefused, wasCounted, howMany, CountedBy, TotalsCount}
+
+-- a check refuses with 14, 11, 12 or 13
+check-numbers : (w : Table) (what : List ℕ) → checkIn w ≡ refused what → (wasRefused (refused what) ≡ false) × (wasCounted (refused what) ≡ false)
+check-numbers w what e =
+    let n = w .state .count in
+    let i = first (drops ltb 0 (w .seqs)) n in
+    let j = first (drops ltZ (pos 0) (w .secs)) n in
+    let k = first (secOutside (w .secs)) n in
+    go i j k (disagrees (w .state) (w .seqs) (w .secs)) (ltb i n) (ltb j n) (ltb k n) e
+  where
+    go : (i j k : ℕ) (a b c d : Bool)
+        → _≡_ {A = Told (Unit {0})} (cond a (refused (14 ∷ [])) (cond b (refused (11 ∷ i ∷ [])) (cond c (refused (12 ∷ j ∷ [])) (cond d (refused (13 ∷ k ∷ [])) (gave tt))))) (refused what)
+        → (wasRefused (refused what) ≡ false) × (wasCounted (refused what) ≡ false)
+    go i j k true b c d h = rw (← same-list h) (refl, refl)
+    go i j k false true c d h = rw (← same-list h) (refl, refl)
+    go i j k false false true d h = rw (← same-list h) (refl, refl)
+    go i j k false false false true h = rw (← same-list h) (refl, refl)
+    go i j k false false false false h = given-not-refused h
 
 -- one answer more, before the others
-count-on : (o : Told Outcome) (b n : Totals) (os : List (Told Outcome)) → CountedBy (totalsWith o b) n os → CountedBy b n (o ∷ os)
+count-on : (w : Table) (o : Told Outcome) (n : Totals) (os : List (Told Outcome)) → Counts w o → CountedBy (totalsWith o (w .state .totals)) n os → CountedBy (w .state .totals) n (o ∷ os)
 unfolding howMany
-count-on (gave (recorded t)) b n os c = record { recorded-are = omega (arith, c .recorded-are); back-are = c .back-are; soon-are = c .soon-are; refused-are = c .refused-are; sum-is = omega (arith, c .sum-is) }
-count-on (gave (wentBack t)) b n os c = record { recorded-are = c .recorded-are; back-are = omega (arith, c .back-are); soon-are = c .soon-are; refused-are = c .refused-are; sum-is = omega (arith, c .sum-is) }
-count-on (gave (tooSoon t)) b n os c = record { recorded-are = c .recorded-are; back-are = c .back-are; soon-are = omega (arith, c .soon-are); refused-are = c .refused-are; sum-is = omega (arith, c .sum-is) }
-count-on (gave (pairRefused what t)) b n os c = record { recorded-are = c .recorded-are; back-are = c .back-are; soon-are = c .soon-are; refused-are = omega (arith, c .refused-are); sum-is = omega (arith, c .sum-is) }
-count-on (refused what) b n os c = record { recorded-are = c .recorded-are; back-are = c .back-are; soon-are = c .soon-are; refused-are = c .refused-are; sum-is = c .sum-is }
+count-on w (gave (recorded t)) n os k c = record { recorded-are = omega (arith, c .recorded-are); back-are = c .back-are; soon-are = c .soon-are; refused-are = c .refused-are; sum-is = omega (arith, c .sum-is) }
+count-on w (gave (wentBack t)) n os k c = record { recorded-are = c .recorded-are; back-are = omega (arith, c .back-are); soon-are = c .soon-are; refused-are = c .refused-are; sum-is = omega (arith, c .sum-is) }
+count-on w (gave (tooSoon t)) n os k c = record { recorded-are = c .recorded-are; back-are = c .back-are; soon-are = omega (arith, c .soon-are); refused-are = c .refused-are; sum-is = omega (arith, c .sum-is) }
+count-on w (gave (pairRefused what t)) n os k c = ⊎-elim (λ (e : what ≡ 16 ∷ []). rw e one) (λ (e : what ≡ 17 ∷ []). rw e two) (k .1)
+  where
+    one : CountedBy (w .state .totals) n (gave (pairRefused (16 ∷ []) t) ∷ os)
+    one = record { recorded-are = c .recorded-are; back-are = c .back-are; soon-are = c .soon-are; refused-are = omega (arith, c .refused-are); sum-is = omega (arith, c .sum-is) }
+
+    two : CountedBy (w .state .totals) n (gave (pairRefused (17 ∷ []) t) ∷ os)
+    two = record { recorded-are = c .recorded-are; back-are = c .back-are; soon-are = c .soon-are; refused-are = omega (arith, c .refused-are); sum-is = omega (arith, c .sum-is) }
+count-on w (refused what) n os k c =
+    ⊎-elim (λ (e : checkIn w ≡ refused what). let h = check-numbers w what e in none (wasRefused (refused what)) (wasCounted (refused what)) refl refl (h .0) (h .1))
+    (λ (e : (checkIn w ≡ gave tt) × (sumOf (w .state .totals) ≡ most) × (what ≡ 31 ∷ [])). rw (e .2) (record { recorded-are = c .recorded-are; back-are = c .back-are; soon-are = c .soon-are; refused-are = c .refused-are; sum-is = c .sum-is })) k
+  where
+    none : (x y : Bool) → wasRefused (refused what) ≡ x → wasCounted (refused what) ≡ y → x ≡ false → y ≡ false → CountedBy (w .state .totals) n (refused what ∷ os)
+    none x y e f g h =
+        let p : cond (wasRefused (refused what)) (suc (howMany wasRefused os)) (howMany wasRefused os) ≡ howMany wasRefused os = ap (λ (z : Bool). cond z (suc (howMany wasRefused os)) (howMany wasRefused os)) (e ∙ g) in
+        let q : cond (wasCounted (refused what)) (suc (howMany wasCounted os)) (howMany wasCounted os) ≡ howMany wasCounted os = ap (λ (z : Bool). cond z (suc (howMany wasCounted os)) (howMany wasCounted os)) (f ∙ h) in
+        record { recorded-are = c .recorded-are; back-are = c .back-are; soon-are = c .soon-are; refused-are = c .refused-are ∙ ap (λ (z : ℕ). w .state .totals .refused + z) (sym p); sum-is = c .sum-is ∙ ap (λ (z : ℕ). sumOf (w .state .totals) + z) (sym q) }
 
 over-offers : (w : Table) (rs : List TrackedSeq) → CountedBy (w .state .totals) (ranTo w (offersOf rs) .state .totals) (answers w (offersOf rs))
 unfolding howMany ranTo step answers
@@ -43,7 +81,7 @@ over-offers w [] = record { recorded-are = omega arith; back-are = omega arith; 
 over-offers w (r ∷ rs) =
     let o = offerTo w (r .seq) (r .ts) in
     let rest = over-offers (step w (offered (r .seq) (r .ts))) rs in
-    count-on o (w .state .totals) _ _ (rw (totals-after w (r .seq) (r .ts) o refl) at rest)
+    count-on w o _ _ (counts-so w (r .seq) (r .ts) o refl) (rw (totals-after w (r .seq) (r .ts) o refl) at rest)
 
 pub made-zero : (capacity interval : ℕ) (t : SequenceTracker) → configOf capacity interval ≡ gave t → t .totals ≡ noTotals
 made-zero capacity interval t e =

@@ -1,13 +1,13 @@
 -- What a table answers depends on the rest of its state, all of it but the totals, and on the pairs that it keeps, as long as the totals have room for the offers made.
-use Prim.Native.Nat.{ℕ, _+_, _≤_, _<_, _^_}
+use Prim.Native.Nat.{ℕ, _+_, _≤_}
 use mathlib.Core.Path.{_≡_}
 use mathlib.Core.List.{List}
 use lib.ListN.{length}
 use lib.IntN.{ℤ}
-use Rattle.told.specs.Told.{Told}
+use Rattle.told.specs.Told.{Told, gave}
 use Rattle.told.specs.Over.{filled}
 use Rattle.gorilla.specs.Reading.{Pairs}
-use Rattle.totals.specs.Totals.{sumOf}
+use Rattle.totals.specs.Totals.{sumOf, most}
 use Rattle.tracker.specs.Table.{kept}
 use Rattle.tracker.specs.Rest.{restOf}
 use Rattle.tracker.specs.declared.Seq.{Seq}
@@ -38,18 +38,25 @@ saveTo w out = saveOf (w .state) (w .seqs) (w .secs) (length out)
 abbrev pub imageFor : Table → List ℕ
 imageFor w = keptImage (w .state) (w .seqs) (w .secs)
 
--- two tables are told the same but for the totals, and keep the same pairs afterwards; `rest` is what is told without them
-abbrev pub ToldAlike : {A : Type 0} → (A → A) → Left A → Left A → Type 0
-ToldAlike rest l m = (rest (l .answer) ≡ rest (m .answer)) × (keptIn (l .table) ≡ keptIn (m .table))
+-- two tables keep the same pairs; two tables are the same but for the totals, whole arrays and all
+abbrev pub SameKept : Table → Table → Type 0
+SameKept w v = keptIn w ≡ keptIn v
 
--- two tables answer alike, where up to m more offers may come
-pub record AnswerAlike (m : ℕ) (w v : Table) : Type 0 where
+abbrev pub SameButTotals : Table → Table → Type 0
+SameButTotals w v = (restOf (w .state) ≡ restOf (v .state)) × (w .seqs ≡ v .seqs) × (w .secs ≡ v .secs)
+
+-- two tables are told the same but for the totals, and are so afterwards; `rest` is what is told without them
+abbrev pub ToldAlike : {A : Type 0} → (Table → Table → Type 0) → (A → A) → Left A → Left A → Type 0
+ToldAlike So rest l m = (rest (l .answer) ≡ rest (m .answer)) × So (l .table) (m .table)
+
+-- two tables answer alike, where up to m more offers may come, and are so after these
+pub record AnswerAlike (So : Table → Table → Type 0) (m : ℕ) (w v : Table) : Type 0 where
   pub by-check : checkIn w ≡ checkIn v
   -- an offer; each list of offers, as records and as two lists; each other table's pairs, and each other table that takes the pairs of this one
-  pub by-offer : (seq : Seq) (ts : Second) → 1 ≤ m → ToldAlike offerRest (offering w seq ts) (offering v seq ts)
-  pub by-log : (rs : List TrackedSeq) → length rs ≤ m → ToldAlike logRest (logOf w rs) (logOf v rs)
-  pub by-pairs : (qs : List ℕ) (ss : List ℤ) → length qs ≤ m → ToldAlike logRest (pairsLogOf w qs ss) (pairsLogOf v qs ss)
-  pub by-other : (other : Table) → other .state .count ≤ m → ToldAlike logRest (extendOf w other) (extendOf v other)
+  pub by-offer : (seq : Seq) (ts : Second) → 1 ≤ m → ToldAlike So offerRest (offering w seq ts) (offering v seq ts)
+  pub by-log : (rs : List TrackedSeq) → length rs ≤ m → ToldAlike So logRest (logOf w rs) (logOf v rs)
+  pub by-pairs : (qs : List ℕ) (ss : List ℤ) → (length qs ≡ length ss → length qs ≤ m) → ToldAlike So logRest (pairsLogOf w qs ss) (pairsLogOf v qs ss)
+  pub by-other : (other : Table) → (checkIn other ≡ gave tt → other .state .count ≤ m) → ToldAlike So logRest (extendOf w other) (extendOf v other)
   pub as-other : (other : Table) → extendOf other w ≡ extendOf other v
   -- each lookup
   pub by-seq : (x : Seq) (opt : FindOption) → findTs (w .state) (w .seqs) (w .secs) x opt ≡ findTs (v .state) (v .seqs) (v .secs) x opt
@@ -60,8 +67,8 @@ pub record AnswerAlike (m : ℕ) (w v : Table) : Type 0 where
 
 -- the totals of a table have room for m more offers
 abbrev pub Room : ℕ → Table → Type 0
-Room m w = sumOf (w .state .totals) + m < 2 ^ 64
+Room m w = sumOf (w .state .totals) + m ≤ most
 
--- the law: two tables with the same arrays, good or not, whose states are the same but for the totals
+-- the law: two tables, good or not, that are the same but for the totals answer alike, and stay so
 abbrev pub RestAlone : Type 0
-RestAlone = (m : ℕ) (w v : Table) → restOf (w .state) ≡ restOf (v .state) → w .seqs ≡ v .seqs → w .secs ≡ v .secs → Room m w → Room m v → AnswerAlike m w v
+RestAlone = (m : ℕ) (w v : Table) → SameButTotals w v → Room m w → Room m v → AnswerAlike SameButTotals m w v

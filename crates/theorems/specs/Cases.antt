@@ -26,7 +26,9 @@ use Rattle.totals.specs.declared.Totals.{Totals}
 use Rattle.totals.specs.declared.Fate.the-variants as fate
 use Rattle.tracker.specs.Rest.{withTotals}
 use Rattle.offers.specs.Offer.{Outcome, recorded, wentBack, tooSoon, pairRefused, counting, offerTo}
+use Rattle.tallies.specs.Tally.{noneYet}
 use Rattle.log.specs.Log.{done, stopped, logOf}
+use Rattle.log.specs.Pairs.{extendOf}
 use Rattle.encoder.specs.Encode.{lenRule, encodeRule, strictRule}
 use Rattle.decoder.specs.Decode.{decodeRule, seqsAfter, secsAfter}
 use Rattle.offers.specs.Whole.{Table}
@@ -232,6 +234,10 @@ pub record Cases : Type 0 where
   pub totals-full-in-list :
       logOf (totalled (four 0 0 18446744073709551614 0) (offeredAll 4 60 [])) (pair 5 100 ∷ pair 6 160 ∷ []) .answer
       ≡ gave (stopped (31 ∷ 1 ∷ []) (withTotals (four 1 0 18446744073709551614 0) (freshTable 4 60 1 (At (second 100)))) (record { recorded = 1; «went_back» = 0; «too_soon» = 0 }))
+  -- with the totals full a list of no record is not refused, nor is an extension by an empty table
+  pub totals-full-no-record :
+      (logOf (totalled (four 18446744073709551615 0 0 0) (offeredAll 4 60 [])) [] .answer ≡ gave (done (withTotals (four 18446744073709551615 0 0 0) (emptyTable 4 60)) noneYet))
+      × (extendOf (totalled (four 18446744073709551615 0 0 0) (offeredAll 4 60 [])) (offeredAll 4 60 []) .answer ≡ gave (done (withTotals (four 18446744073709551615 0 0 0) (emptyTable 4 60)) noneYet))
   -- in P8's table sequence 2: up 30, down 10; 6 up and 0 down: nothing
   pub P12 :
       Finds (offeredAll 4 0 (firstOf 5)) 2 RoundUp (partner (second 30))

@@ -2,13 +2,14 @@
 -- runs have single offers, is of tables that lists made too.
 use Prim.Native.Nat.{ℕ, _+_}
 use mathlib.Core.Path.{_≡_}
-use mathlib.Core.List.{List, [], _∷_, map}
+use mathlib.Core.List.{List, [], _∷_, _++_, map}
 use lib.ListN.{take}
 use lib.IntN.{ℤ}
 use Rattle.told.specs.Told.{Told, gave, refused}
 use Rattle.tracker.specs.declared.TrackedSeq.{TrackedSeq}
+use Rattle.tracker.specs.declared.SequenceTracker.{SequenceTracker}
 use Rattle.offers.specs.Whole.{Table, Left}
-use Rattle.offers.specs.Offer.{Outcome}
+use Rattle.offers.specs.Offer.{Outcome, recorded, wentBack, tooSoon, pairRefused}
 use Rattle.tallies.specs.declared.Tally.{Tally}
 use Rattle.tallies.specs.Tally.{noneYet, counted, total}
 use Rattle.log.specs.Log.{Log, done, stopped, logOf}
@@ -37,9 +38,34 @@ triedOf rs (gave (done t n)) = offersOf rs
 triedOf rs (gave (stopped what t n)) = offersOf (take (total n + 1) rs)
 triedOf rs (refused what) = []
 
+-- the state that a list tells is this one; refused before the first record, it tells none
+abbrev pub TellsState : SequenceTracker → Told Log → Type 0
+TellsState s (gave (done t n)) = t ≡ s
+TellsState s (gave (stopped what t n)) = t ≡ s
+TellsState s (refused what) = Unit {0}
+
+-- what these offers are told as refusals
+abbrev pub refusalIn : Told Outcome → List ℕ
+refusalIn (gave (recorded t)) = []
+refusalIn (gave (wentBack t)) = []
+refusalIn (gave (tooSoon t)) = []
+refusalIn (gave (pairRefused what t)) = what
+refusalIn (refused what) = what
+
+unfoldable pub refusalsIn : List (Told Outcome) → List ℕ
+refusalsIn [] = []
+refusalsIn (o ∷ os) = refusalIn o ++ refusalsIn os
+
+-- the list tells these, and the position of the refused record after them; not stopped, there are none
+abbrev pub TellsRefusal : List ℕ → Told Log → Type 0
+TellsRefusal those (gave (done t n)) = those ≡ []
+TellsRefusal those (gave (stopped what t n)) = what ≡ those ++ (total n ∷ [])
+TellsRefusal those (refused what) = Unit {0}
+
 -- offered one by one they leave the same table, totals and all, and the list's numbers are those of their answers
 abbrev pub OneByOne : Table → List TrackedSeq → Left (Told Log) → Type 0
-OneByOne w rs l = (l .table ≡ ranTo w (triedOf rs (l .answer))) × (tallyIn (l .answer) ≡ tallied (answers w (triedOf rs (l .answer))))
+OneByOne w rs l = (l .table ≡ ranTo w (triedOf rs (l .answer))) × TellsState (l .table .state) (l .answer) × (tallyIn (l .answer) ≡ tallied (answers w (triedOf rs (l .answer))))
+    × TellsRefusal (refusalsIn (answers w (triedOf rs (l .answer)))) (l .answer)
 
 -- of a list of records, of two lists, and of another table's pairs
 abbrev pub ListsAreOffers : Type 0

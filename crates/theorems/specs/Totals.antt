@@ -1,9 +1,11 @@
 -- The totals of a table count the offers made to it since it was made or restored, each kind apart, and their sum is the number of those that were counted.
 use Prim.Native.Nat.{ℕ, suc, _+_}
 use mathlib.Core.Path.{_≡_}
-use mathlib.Core.Bool.{Bool, true, false, cond}
+use mathlib.Core.Bool.{Bool, true, false, cond, not, _||_}
 use mathlib.Core.List.{List, [], _∷_}
+use lib.Dec.{eqb}
 use lib.IntN.{ℤ}
+use lib.ListN.{getD}
 use Rattle.told.specs.Told.{Told, gave, refused}
 use Rattle.totals.specs.Totals.{noTotals, sumOf}
 use Rattle.totals.specs.declared.Totals.{Totals}
@@ -16,7 +18,15 @@ use Rattle.restoring.specs.Restore.{restoreAt}
 use Rattle.theorems.specs.Run.{ranTo, answers}
 use Rattle.theorems.specs.Lists.{offersOf}
 
--- what an offer was told: that it was recorded, that it went back, that it came too soon, that it was refused with 16 or 17
+-- the number that an offer was told: 0 where it was not refused
+abbrev pub numberIn : Told Outcome → ℕ
+numberIn (gave (recorded t)) = 0
+numberIn (gave (wentBack t)) = 0
+numberIn (gave (tooSoon t)) = 0
+numberIn (gave (pairRefused what t)) = getD what 0 0
+numberIn (refused what) = getD what 0 0
+
+-- it was told that it was recorded, that it went back, that it came too soon
 abbrev pub wasRecorded : Told Outcome → Bool
 wasRecorded (gave (recorded t)) = true
 wasRecorded (gave (wentBack t)) = false
@@ -38,17 +48,13 @@ wasSoon (gave (tooSoon t)) = true
 wasSoon (gave (pairRefused what t)) = false
 wasSoon (refused what) = false
 
+-- it was refused with 16 or 17
 abbrev pub wasRefused : Told Outcome → Bool
-wasRefused (gave (recorded t)) = false
-wasRefused (gave (wentBack t)) = false
-wasRefused (gave (tooSoon t)) = false
-wasRefused (gave (pairRefused what t)) = true
-wasRefused (refused what) = false
+wasRefused o = eqb (numberIn o) 16 || eqb (numberIn o) 17
 
--- any of these: it was not refused with 14, 11, 12, 13 or 31
+-- it was not refused with 14, 11, 12, 13 or 31
 abbrev pub wasCounted : Told Outcome → Bool
-wasCounted (gave o) = true
-wasCounted (refused what) = false
+wasCounted o = not (eqb (numberIn o) 14 || eqb (numberIn o) 11 || eqb (numberIn o) 12 || eqb (numberIn o) 13 || eqb (numberIn o) 31)
 
 -- how many answers are so
 unfoldable pub howMany : (Told Outcome → Bool) → List (Told Outcome) → ℕ

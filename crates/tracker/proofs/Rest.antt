@@ -20,10 +20,13 @@ with-rest t u e = ap (withTotals (u .totals)) e
 pub by-rest : (P : SequenceTracker → Type 0) (t u : SequenceTracker) → restOf t ≡ restOf u → P (withTotals (u .totals) t) → P u
 by-rest P t u e = subst P (with-rest t u e)
 
-pub check-totals : (t : SequenceTracker) (n : Totals) (seqs : List ℕ) (secs : List ℤ) → tooMany n ≡ tooMany (t .totals) → checkOf (withTotals n t) seqs secs ≡ checkOf t seqs secs
+check-totals : (t : SequenceTracker) (n : Totals) (seqs : List ℕ) (secs : List ℤ) → tooMany n ≡ tooMany (t .totals) → checkOf (withTotals n t) seqs secs ≡ checkOf t seqs secs
 check-totals t n seqs secs e = rw e
 
--- a good table is good with other totals that add up
+-- so where both add up it is the same
+pub fit-check : (t : SequenceTracker) (n : Totals) (seqs : List ℕ) (secs : List ℤ) → sumOf (t .totals) ≤ most → sumOf n ≤ most → checkOf t seqs secs ≡ checkOf (withTotals n t) seqs secs
+fit-check t n seqs secs fit fit′ = sym (check-totals t n seqs secs (not-too-many n fit′ ∙ sym (not-too-many (t .totals) fit)))
+
+-- and a good table is good with other totals that add up
 pub good-totals : (t : SequenceTracker) (n : Totals) (seqs : List ℕ) (secs : List ℤ) → sumOf n ≤ most → checkOf t seqs secs ≡ gave tt → checkOf (withTotals n t) seqs secs ≡ gave tt
-good-totals t n seqs secs fit good =
-    check-totals t n seqs secs (not-too-many n fit ∙ sym (not-too-many (t .totals) (fine t seqs secs good .state .totals-fit))) ∙ good
+good-totals t n seqs secs fit good = sym (fit-check t n seqs secs (fine t seqs secs good .state .totals-fit) fit) ∙ good
