@@ -144,19 +144,19 @@ struct skut_table_answer skut_with_config(uint32_t capacity, uint64_t interval_s
 struct skut_answer skut_check(struct skut_state state, const uint64_t *seqs, size_t seqs_len, const int64_t *secs, size_t secs_len);
 
 /* Offers a pair: 31; 16; then it may be skipped; then 17; else it is recorded. Where it is not refused, exactly one number of `tally` is 1. With 16 or 17 a state
- * is returned, which counts that; with 31 nothing is counted, and none is returned. Stack: 640 bytes. */
+ * is returned, which counts that; with 31 nothing is counted, and none is returned. Stack: 512 bytes. */
 struct skut_table_answer skut_offer(struct skut_state state, uint64_t *seqs, size_t seqs_len, int64_t *secs, size_t secs_len, uint64_t seq, int64_t sec);
 
 /* Offers pairs in order, from two lists of one length, up to the first that is refused (31, 16, 17). Lists of different length are refused before all else: 18.
  * Where a state is returned, the numbers of `tally` add up to the length or, with 31, 16 or 17, to the position that is told. With 16 or 17 the state counts that
- * refusal; with 31 it is as the pairs before left it. Stack: 1,152 bytes. */
+ * refusal; with 31 it is as the pairs before left it. Stack: 896 bytes. */
 struct skut_table_answer skut_offer_pairs(struct skut_state state, uint64_t *seqs, size_t seqs_len, int64_t *secs, size_t secs_len,
                                           const uint64_t *from_seqs, size_t from_seqs_len, const int64_t *from_secs, size_t from_secs_len);
 
 /* Offers the pairs of another table, whose arrays are not those of the own one, up to the first that is refused (31, 17). Where a table is bad (14, 11, 12, 13),
  * which of the two is told last: 0 for the own one, 1 for the other. Where a state is returned, the numbers of `tally` add up to the other table's `count` or,
  * with 31 or 17, to the position that is told. With 17 the state counts that refusal; with 31 it is as the pairs before left it. The other table's totals are
- * checked, by 14, and else they do not matter. Stack: 1,408 bytes. */
+ * checked, by 14, and else they do not matter. Stack: 1,152 bytes. */
 struct skut_table_answer skut_extend_from(struct skut_state state, uint64_t *seqs, size_t seqs_len, int64_t *secs, size_t secs_len,
                                           struct skut_state other, const uint64_t *other_seqs, size_t other_seqs_len,
                                           const int64_t *other_secs, size_t other_secs_len);
