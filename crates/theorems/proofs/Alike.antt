@@ -24,7 +24,7 @@ use Rattle.offers.specs.Whole.{Table, whole, checkIn, leaving}
 use Rattle.offers.specs.Offer.{recorded, wentBack, tooSoon, pairRefused}
 use Rattle.offers.proofs.Alike.{Alike, same-count, same-capacity, kept-seqs, kept-secs, same-rooms}
 use Rattle.log.specs.Rest.{logRest}
-use Rattle.theorems.specs.Alike.{SameKept, SameButTotals, ToldAlike, AnswerAlike, Room, RestAlone}
+use Rattle.theorems.specs.Alike.{KeptAlike, SameButTotals, ToldAlike, AnswerAlike, Room, RestAlone}
 use Rattle.theorems.proofs.Logged.{kept-same, KeptUp, offer-alike, log-alike, pairs-alike, extend-alike, extend-by-alike}
 
 -- ---- two good tables that are alike, with room for m more offers
@@ -57,8 +57,8 @@ module _ (Still So : Table → Table → Type 0) (keeps : KeptUp Still) (so : (w
   }
 
 -- after offers two alike tables keep the same pairs
-pub kept-alike : (m : ℕ) (w v : Table) → checkIn w ≡ gave tt → checkIn v ≡ gave tt → Alike w v → Room m w → Room m v → AnswerAlike SameKept m w v
-kept-alike m w v g g′ a room room′ = answer-alike (λ w v. Unit {0}) SameKept (λ w v a b seq ts o m. tt) (λ w v a b. kept-same w v a) m w v g g′ a tt room room′
+pub kept-alike : (m : ℕ) (w v : Table) → checkIn w ≡ gave tt → checkIn v ≡ gave tt → Alike w v → Room m w → Room m v → AnswerAlike KeptAlike m w v
+kept-alike m w v g g′ a room room′ = answer-alike (λ w v. Unit {0}) KeptAlike (λ w v a b seq ts o m. tt) (λ w v a b. kept-same w v a) m w v g g′ a tt room room′
 
 -- ---- one table with other totals, good or not
 

@@ -39,8 +39,8 @@ abbrev pub imageFor : Table → List ℕ
 imageFor w = keptImage (w .state) (w .seqs) (w .secs)
 
 -- two tables keep the same pairs; two tables are the same but for the totals, whole arrays and all
-abbrev pub SameKept : Table → Table → Type 0
-SameKept w v = keptIn w ≡ keptIn v
+abbrev pub KeptAlike : Table → Table → Type 0
+KeptAlike w v = keptIn w ≡ keptIn v
 
 abbrev pub SameButTotals : Table → Table → Type 0
 SameButTotals w v = (restOf (w .state) ≡ restOf (v .state)) × (w .seqs ≡ v .seqs) × (w .secs ≡ v .secs)

@@ -1,4 +1,4 @@
--- A list of offers leaves what the records that it offered leave when they are offered one by one, and counts what these are told: so the third demand, whose
+-- A list of offers leaves what the records that it offered leave when they are offered one by one, counts what these are told, and tells the refusal of the last: so the third demand, whose
 -- runs have single offers, is of tables that lists made too.
 use Prim.Native.Nat.{ℕ, _+_}
 use mathlib.Core.Path.{_≡_}
@@ -62,7 +62,7 @@ TellsRefusal those (gave (done t n)) = those ≡ []
 TellsRefusal those (gave (stopped what t n)) = what ≡ those ++ (total n ∷ [])
 TellsRefusal those (refused what) = Unit {0}
 
--- offered one by one they leave the same table, totals and all, and the list's numbers are those of their answers
+-- offered one by one they leave the same table, totals and all, whose state the list tells; its numbers are those of their answers, and its refusal is what the last of them is told
 abbrev pub OneByOne : Table → List TrackedSeq → Left (Told Log) → Type 0
 OneByOne w rs l = (l .table ≡ ranTo w (triedOf rs (l .answer))) × TellsState (l .table .state) (l .answer) × (tallyIn (l .answer) ≡ tallied (answers w (triedOf rs (l .answer))))
     × TellsRefusal (refusalsIn (answers w (triedOf rs (l .answer)))) (l .answer)

@@ -25,7 +25,7 @@ use Rattle.decoder.specs.Decode.{listed}
 use Rattle.restoring.specs.Restore.{readTable, restoreOf, restoreAt, Restores, RestoresAt}
 use Rattle.restoring.specs.Interval.{withInterval}
 use Rattle.restoring.specs.declared.Restored.the-variants as restored
-use Rattle.theorems.specs.Alike.{keptIn, strictTo, saveTo, imageFor, SameKept, AnswerAlike}
+use Rattle.theorems.specs.Alike.{keptIn, strictTo, saveTo, imageFor, KeptAlike, AnswerAlike}
 
 -- as `new` makes it, in two arrays that hold what they hold
 abbrev pub new : List ℕ → List ℤ → Table
@@ -137,7 +137,7 @@ pub record Unharmed (m : ℕ) (w v : Table) : Type 0 where
   pub pairs : keptIn w ≡ keptIn v
   pub state : restOf (w .state) ≡ restOf (v .state)
   -- each later answer: offers and lists of offers, lookups, saves
-  pub alike : AnswerAlike SameKept m w v
+  pub alike : AnswerAlike KeptAlike m w v
   -- a restore at a valid interval never refuses what a strict save wrote: it gives back the pairs, and the state with that interval in it and its totals at zero, so at the table's own
   -- interval the same state but for the totals
   pub restores : (l : Reload) (n : ℕ) → badSettings defaultCapacity (intervalBy (l .by)) ≡ false → Lent (l .seqs) (l .secs) → strictTo w (l .out) ≡ gave n
