@@ -181,7 +181,7 @@ struct skut_answer skut_save(struct skut_state state, const uint64_t *seqs, size
  * - capacity 8,192, interval 60, and (5, 100) offered: it comes back from skut_restore with interval 10, and records (6, 110), which came too soon before;
  * - capacity 3, interval 0, and (1, 10), (2, 20), (3, 30), (4, 40) offered: `last` is 40, and comes back as 30, with capacity 8,192, from skut_restore with
  *   interval 10, and from skut_restore_with_interval with the one that is named;
- * - a state that no call made, with count 1, the default settings and `last` 20, and the pair (1, 10): 14 accepts it, and `last` comes back as 10.
+ * - a state that no call made, with count 1, the default settings, `last` 20 and totals of 0, and the pair (1, 10): 14 accepts it, and `last` comes back as 10.
  * Nor has it a checksum: bytes that were changed may read as another table, with no refusal. Stack: 640 bytes. */
 struct skut_answer skut_save_strict(struct skut_state state, const uint64_t *seqs, size_t seqs_len, const int64_t *secs, size_t secs_len, uint8_t *out, size_t out_len);
 
