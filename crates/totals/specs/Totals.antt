@@ -26,7 +26,7 @@ tooMany n = ltb most (sumOf n)
 abbrev pub full : Totals → Bool
 full n = ltb most (sumOf n + 1)
 
--- one more offer, of which this became
+-- one more offer, by what became of it
 abbrev pub oneMore : Fate → Totals → Totals
 oneMore Recorded n = record { recorded = n .recorded + 1; «went_back» = n .«went_back»; «too_soon» = n .«too_soon»; refused = n .refused }
 oneMore WentBack n = record { recorded = n .recorded; «went_back» = n .«went_back» + 1; «too_soon» = n .«too_soon»; refused = n .refused }

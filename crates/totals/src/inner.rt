@@ -43,7 +43,7 @@ pub fn full(totals: Totals) -> bool
     totals.recorded + totals.went_back + totals.too_soon + totals.refused == MOST
 }
 
-// With one more offer, of which this became.
+// With one more offer, by what became of it.
 pub fn one_more(totals: Totals, fate: Fate) -> Totals
     requires { ⌜ sumOf totals < most ⌝ }
     ensures { λ r. ⌜ r ≡ oneMore fate totals ⌝ }
