@@ -3,7 +3,7 @@ use mathlib.Core.Path.{_≡_, refl, sym, ap, _∙_}
 use mathlib.Core.Bool.{Bool, true, false, cond}
 use mathlib.Core.Logic.{⊎-elim}
 use mathlib.Core.List.{List, [], _∷_}
-use Prim.Native.Nat.{ℕ, suc, _+_}
+use Prim.Native.Nat.{ℕ}
 use native.Mathlib.Omega.{arith}
 use lib.Dec.{ltb}
 use lib.Signed.{ltZ}
@@ -27,7 +27,7 @@ use Rattle.fresh.specs.Fresh.{defaultCapacity, emptyTable, freshTable, configOf
 use Rattle.settling.specs.Settle.{lastOf}
 use Rattle.offers.specs.Whole.{Table, checkIn}
 use Rattle.offers.specs.Offer.{Outcome, recorded, wentBack, tooSoon, pairRefused, offerTo}
-use Rattle.offers.specs.Counted.{Counts}
+use Rattle.offers.specs.Counted.{ByPair, Counts}
 use Rattle.offers.proofs.Counted.{totalsWith, counts-so, totals-after}
 use Rattle.restoring.specs.Restore.{readTable, judged, tooShort, readInto, restoreAt}
 use Rattle.theorems.specs.Run.{offered, step, ranTo, answers}
@@ -52,28 +52,25 @@ check-numbers w what e =
     go i j k false false false true h = rw (← same-list h) (refl, refl)
     go i j k false false false false h = given-not-refused h
 
+-- an offer that is not counted is told one of these, or 31; one that is refused for its pair 16 or 17
+uncounted : (w : Table) (what : List ℕ) → Counts w (refused what) → (wasRefused (refused what) ≡ false) × (wasCounted (refused what) ≡ false)
+uncounted w what = ⊎-elim (check-numbers w what) (λ (e : (checkIn w ≡ gave tt) × (sumOf (w .state .totals) ≡ most) × (what ≡ 31 ∷ [])). rw (e .2) (refl, refl))
+
+by-pair : (what : List ℕ) (t : SequenceTracker) → ByPair what → (wasRefused (gave (pairRefused what t)) ≡ true) × (wasCounted (gave (pairRefused what t)) ≡ true)
+by-pair what t = ⊎-elim (λ (e : what ≡ 16 ∷ []). rw e (refl, refl)) (λ (e : what ≡ 17 ∷ []). rw e (refl, refl))
+
 -- one answer more, before the others
 count-on : (w : Table) (o : Told Outcome) (n : Totals) (os : List (Told Outcome)) → Counts w o → CountedBy (totalsWith o (w .state .totals)) n os → CountedBy (w .state .totals) n (o ∷ os)
 unfolding howMany
 count-on w (gave (recorded t)) n os k c = record { recorded-are = omega (arith, c .recorded-are); back-are = c .back-are; soon-are = c .soon-are; refused-are = c .refused-are; sum-is = omega (arith, c .sum-is) }
 count-on w (gave (wentBack t)) n os k c = record { recorded-are = c .recorded-are; back-are = omega (arith, c .back-are); soon-are = c .soon-are; refused-are = c .refused-are; sum-is = omega (arith, c .sum-is) }
 count-on w (gave (tooSoon t)) n os k c = record { recorded-are = c .recorded-are; back-are = c .back-are; soon-are = omega (arith, c .soon-are); refused-are = c .refused-are; sum-is = omega (arith, c .sum-is) }
-count-on w (gave (pairRefused what t)) n os k c = ⊎-elim (λ (e : what ≡ 16 ∷ []). rw e one) (λ (e : what ≡ 17 ∷ []). rw e two) (k .1)
-  where
-    one : CountedBy (w .state .totals) n (gave (pairRefused (16 ∷ []) t) ∷ os)
-    one = record { recorded-are = c .recorded-are; back-are = c .back-are; soon-are = c .soon-are; refused-are = omega (arith, c .refused-are); sum-is = omega (arith, c .sum-is) }
-
-    two : CountedBy (w .state .totals) n (gave (pairRefused (17 ∷ []) t) ∷ os)
-    two = record { recorded-are = c .recorded-are; back-are = c .back-are; soon-are = c .soon-are; refused-are = omega (arith, c .refused-are); sum-is = omega (arith, c .sum-is) }
+count-on w (gave (pairRefused what t)) n os k c =
+    let h = by-pair what t (k .1) in
+    record { recorded-are = c .recorded-are; back-are = c .back-are; soon-are = c .soon-are; refused-are = rw (h .0) (omega (arith, c .refused-are)); sum-is = rw (h .1) (omega (arith, c .sum-is)) }
 count-on w (refused what) n os k c =
-    ⊎-elim (λ (e : checkIn w ≡ refused what). let h = check-numbers w what e in none (wasRefused (refused what)) (wasCounted (refused what)) refl refl (h .0) (h .1))
-    (λ (e : (checkIn w ≡ gave tt) × (sumOf (w .state .totals) ≡ most) × (what ≡ 31 ∷ [])). rw (e .2) (record { recorded-are = c .recorded-are; back-are = c .back-are; soon-are = c .soon-are; refused-are = c .refused-are; sum-is = c .sum-is })) k
-  where
-    none : (x y : Bool) → wasRefused (refused what) ≡ x → wasCounted (refused what) ≡ y → x ≡ false → y ≡ false → CountedBy (w .state .totals) n (refused what ∷ os)
-    none x y e f g h =
-        let p : cond (wasRefused (refused what)) (suc (howMany wasRefused os)) (howMany wasRefused os) ≡ howMany wasRefused os = ap (λ (z : Bool). cond z (suc (howMany wasRefused os)) (howMany wasRefused os)) (e ∙ g) in
-        let q : cond (wasCounted (refused what)) (suc (howMany wasCounted os)) (howMany wasCounted os) ≡ howMany wasCounted os = ap (λ (z : Bool). cond z (suc (howMany wasCounted os)) (howMany wasCounted os)) (f ∙ h) in
-        record { recorded-are = c .recorded-are; back-are = c .back-are; soon-are = c .soon-are; refused-are = c .refused-are ∙ ap (λ (z : ℕ). w .state .totals .refused + z) (sym p); sum-is = c .sum-is ∙ ap (λ (z : ℕ). sumOf (w .state .totals) + z) (sym q) }
+    let h = uncounted w what k in
+    record { recorded-are = c .recorded-are; back-are = c .back-are; soon-are = c .soon-are; refused-are = rw (h .0) (c .refused-are); sum-is = rw (h .1) (c .sum-is) }
 
 over-offers : (w : Table) (rs : List TrackedSeq) → CountedBy (w .state .totals) (ranTo w (offersOf rs) .state .totals) (answers w (offersOf rs))
 unfolding howMany ranTo step answers
