@@ -4,6 +4,7 @@ ghost use Rattle.gorilla.specs.Array.{arrayNo};
 ghost use Rattle.code_reader.specs.Refusal as reader;
 ghost use Rattle.encoder.specs.Encode as encoding;
 ghost use Rattle.tracker.specs.Refusal as table;
+ghost use Rattle.dates.specs.Refusal as dating;
 ghost use Rattle.answers.specs.Answer.{answerOf};
 use crate::Answer;
 use bits::Place;
@@ -88,5 +89,17 @@ pub fn of_table(why: tracker::Refusal) -> Answer
         tracker::Refusal::OfferedOutside => answer(16, 0, 0, 0),
         tracker::Refusal::OfferedDrops => answer(17, 0, 0, 0),
         tracker::Refusal::TotalsFull => answer(31, 0, 0, 0),
+    }
+}
+
+// Of dates.
+pub fn dating(why: dates::Refusal) -> Answer
+    ensures { λ r. ⌜ r ≡ answerOf (dating.told why) ⌝ }
+{
+    match why {
+        dates::Refusal::NotTheGrammar => answer(25, 0, 0, 0),
+        dates::Refusal::NoSuchTime => answer(26, 0, 0, 0),
+        dates::Refusal::Outside => answer(27, 0, 0, 0),
+        dates::Refusal::Room(bytes) => answer(21, bytes as u64, 0, 0),
     }
 }

@@ -1,6 +1,6 @@
 // The answer of each public call that gives no table, as numbers.
 ghost use mathlib.Core.Path.{_≡_};
-ghost use Rattle.bits.specs.Read.{toldRead};
+ghost use Rattle.bits.specs.Read as reading;
 ghost use Rattle.bits.specs.Write.{toldWrite};
 ghost use Rattle.signed.specs.Extend.{toldExtend};
 ghost use Rattle.encoder.specs.Encode as encoding;
@@ -8,12 +8,15 @@ ghost use Rattle.decoder.specs.Decode as decoding;
 ghost use Rattle.tracker.specs.Refusal.{toldCheck};
 ghost use Rattle.lookup.specs.Found.{toldTs, toldSeq};
 ghost use Rattle.saving.specs.Save.{toldSave};
+ghost use Rattle.dates.specs.Refusal.{toldWritten, toldRead};
 ghost use Rattle.answers.specs.Answer.{ofCount, ofSigned, ofPiece, ofPlace, ofCheck, ofTs, ofSeq};
 use answers::Answer;
 use answers::inner as refusals;
 use answers::inner::answer;
 use bits::BitsRead;
 use bits::BitsWritten;
+use dates::DateRead;
+use dates::DateWritten;
 use decoder::Decoded;
 use decoder::ImageLen;
 use encoder::Encoded;
@@ -26,7 +29,7 @@ use signed::as_unsigned;
 use tracker::Checked;
 
 pub fn of_read(read: BitsRead) -> Answer
-    ensures { λ r. ⌜ r ≡ ofPiece (toldRead read) ⌝ }
+    ensures { λ r. ⌜ r ≡ ofPiece (reading.toldRead read) ⌝ }
 {
     match read {
         BitsRead::Value(value, next) => answer(0, value, next.byte as u64, next.bit as u64),
@@ -126,5 +129,23 @@ pub fn of_saved(saved: Saved) -> Answer
         Saved::Written(n) => answer(0, n as u64, 0, 0),
         Saved::Refused(why) => refusals::of_table(why),
         Saved::NotEncoded(why) => refusals::encoding(why),
+    }
+}
+
+pub fn of_date_written(written: DateWritten) -> Answer
+    ensures { λ r. ⌜ r ≡ ofCount (toldWritten written) ⌝ }
+{
+    match written {
+        DateWritten::Written(n) => answer(0, n as u64, 0, 0),
+        DateWritten::Refused(why) => refusals::dating(why),
+    }
+}
+
+pub fn of_date_read(read: DateRead) -> Answer
+    ensures { λ r. ⌜ r ≡ ofSigned (toldRead read) ⌝ }
+{
+    match read {
+        DateRead::At(s) => answer(0, as_unsigned(s.0), 0, 0),
+        DateRead::Refused(why) => refusals::dating(why),
     }
 }

@@ -9,7 +9,7 @@ use lib.ListN.{length}
 use lib.IntN.{ℤ}
 use Rattle.told.specs.Told.{Told, gave, refused}
 use Rattle.told.proofs.Unique.{given-not-refused, same-gift}
-use Rattle.encoder.specs.Encode.{arraysRule, roomRule}
+use Rattle.encoder.specs.Encode.{arraysRule}
 
 module _ (seqs : List ℕ) (secs : List ℤ) where
   pub differ : (next : Told ℕ) → (length seqs ≡ length secs → ⊥) → refused (18 ∷ []) ≡ arraysRule seqs secs next
@@ -56,11 +56,3 @@ module _ (seqs : List ℕ) (secs : List ℤ) where
       (λ e g. g ∙ differ next e)
       (λ e f g. g ∙ many next e f)
       (λ _ _ g. given-not-refused (sym g))
-
-pub no-room : (bytes room : ℕ) → room < bytes → refused (21 ∷ bytes ∷ []) ≡ roomRule bytes room
-unfolding roomRule
-no-room bytes room h = simp (lt-ltb _ _ h)
-
-pub enough : (bytes room : ℕ) → bytes ≤ room → gave bytes ≡ roomRule bytes room
-unfolding roomRule
-enough bytes room h = simp (le-ltb _ _ h)

@@ -8,6 +8,7 @@ use lib.ListN.{length}
 use lib.IntN.{ℤ}
 use Rattle.told.specs.Told.{Told, gave, refused, ifGood}
 use Rattle.told.specs.Over.{filled}
+use Rattle.told.specs.Room.{roomRule}
 use Rattle.gorilla.specs.Array.{arrayNo}
 use Rattle.gorilla.specs.Format.{imageBytes}
 use Rattle.gorilla.specs.Wide.{wideOf}
@@ -39,10 +40,6 @@ arraysRule seqs secs else =
     cond (not (eqb (length seqs) (length secs))) (refused (18 ∷ []))
     (cond (ltb 65536 (length seqs)) (refused (19 ∷ []))
     else)
-
--- 21 where the output is too short, told with the bytes needed; else so many bytes are written
-unfoldable pub roomRule : ℕ → ℕ → Told ℕ
-roomRule bytes room = cond (ltb room bytes) (refused (21 ∷ bytes ∷ [])) (gave bytes)
 
 -- the length: 18, 19
 abbrev pub lenRule : List ℕ → List ℤ → Told ℕ

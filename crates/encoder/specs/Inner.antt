@@ -5,7 +5,8 @@ use mathlib.Core.List.{List}
 use lib.ListN.{length}
 use lib.IntN.{ℤ}
 use Rattle.gorilla.specs.Format.{imageBytes}
-use Rattle.encoder.specs.Encode.{Encodes, roomRule}
+use Rattle.encoder.specs.Encode.{Encodes}
+use Rattle.told.specs.Room.{roomRule}
 use Rattle.encoder.specs.declared.Encoded.{Encoded}
 
 -- arrays that pass 18 and 19, and a length that no image of so many pairs exceeds

@@ -4,3 +4,4 @@ pub mod First
 pub mod Last
 pub mod Order
 pub mod Fours
+pub mod Domain

@@ -11,7 +11,7 @@ use Rattle.gorilla.specs.Wide.{wideOf}
 use Rattle.tracker.specs.Refusal.{told}
 use Rattle.tracker.specs.Table.{checkOf, kept}
 use Rattle.tracker.specs.declared.SequenceTracker.{SequenceTracker}
-use Rattle.encoder.specs.Encode.{roomRule}
+use Rattle.told.specs.Room.{roomRule}
 use Rattle.encoder.specs.Encode as encoder
 use Rattle.saving.specs.declared.Saved.{Saved}
 use Rattle.saving.specs.declared.Saved.the-variants.{Written, Refused, NotEncoded}

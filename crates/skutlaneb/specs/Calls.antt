@@ -14,6 +14,7 @@ use Rattle.gorilla.specs.Format.{imageBytes}
 use Rattle.gorilla.specs.Reading.{pairsRead}
 use Rattle.saving.specs.Save.{keptImage}
 use Rattle.restoring.specs.Restore.{readTable}
+use Rattle.dates.specs.Write.{writeDate, LeavesDate}
 use Rattle.answers.specs.Answer.{ofCount}
 use Rattle.answers.specs.declared.Answer.{Answer}
 use Rattle.states.specs.State.{tableOf}
@@ -24,6 +25,10 @@ use Rattle.table_answers.specs.declared.TableAnswer.{TableAnswer}
 -- an encoder by its rule
 abbrev pub SkutEncodes : (List ℕ → List ℤ → ℕ → Told ℕ) → List ℕ → List ℤ → List ℕ → Answer → List ℕ → Type 0
 SkutEncodes rule seqs secs out r out′ = (r ≡ ofCount (rule seqs secs (length out))) × (out′ ≡ filled (rule seqs secs (length out)) (imageBytes seqs secs) out)
+
+-- a date written
+abbrev pub SkutWritesDate : ℤ → List ℕ → Answer → List ℕ → Type 0
+SkutWritesDate z out r out′ = (r ≡ ofCount (writeDate z (length out))) × LeavesDate (writeDate z (length out)) z out out′
 
 -- a save by its rule
 abbrev pub SkutSaves : (SequenceTracker → List ℕ → List ℤ → ℕ → Told ℕ) → State → List ℕ → List ℤ → List ℕ → Answer → List ℕ → Type 0

@@ -4,6 +4,7 @@
 // are taken, and what they do not make is refused by a number of docs/RULES.md. No call allocates. The two restores take 128 KB
 // of stack for arrays of their own; no other call keeps an array on the stack.
 pub mod bit_calls; // bit_calls.rt: bits in and out, sign extension
+pub mod date_calls; // date_calls.rt: dates
 pub mod image_calls; // image_calls.rt: images of arrays
 pub mod layout; // layout.rt: which layout the structs have
 pub mod store_calls; // store_calls.rt: a table saved and restored

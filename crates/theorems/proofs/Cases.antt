@@ -12,13 +12,15 @@ use Rattle.gorilla.specs.Wide.{wideAfter, wideIn, wideOf}
 use Rattle.keeping.specs.Keep.{evens}
 use Rattle.log.specs.Log.{runOf}
 use Rattle.log.specs.Pairs.{recordsOf}
-use Rattle.encoder.specs.Encode.{arraysRule, roomRule}
+use Rattle.encoder.specs.Encode.{arraysRule}
+use Rattle.told.specs.Room.{roomRule}
 use Rattle.decoder.specs.Decode.{listed}
 use Rattle.text.specs.Text.{digits, decimal, signedDecimal}
 use Rattle.report.specs.Lines.{line, lines, entriesText, refusedText}
 use Rattle.report.specs.Listing.{listingOf}
 use Rattle.theorems.specs.Run.{step, ranTo}
 use Rattle.theorems.specs.Cases.{Cases}
+use Rattle.theorems.proofs.DateCases.{date-cases}
 
 pub cases : Cases
 unfolding readRule posOf arraysRule roomRule imageBytes leBytes arrayBits valuesBits codesBits codeBits rowOf packed bytesOf natFrom natBits wideOf wideIn wideAfter strict ranTo step runOf recordsOf firstFrom evens lastOr listed readPairs readPart leCount readArray readValues valuesAfter readCodes readCode countOnes cutNumber takeBits bitsOf digits decimal signedDecimal line lines entriesText refusedText listingOf
@@ -61,4 +63,5 @@ cases = record {
   cut-off = (refl, refl, refl, refl, refl, refl, refl);
   bits-left = (refl, refl, refl, refl, refl);
   order = (refl, refl);
+  dates = date-cases;
 }

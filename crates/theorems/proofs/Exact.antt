@@ -16,7 +16,7 @@ use Rattle.gorilla.specs.Reading.{Pairs}
 use Rattle.gorilla.specs.Wide.{wideOf}
 use Rattle.gorilla.proofs.RoundTrip.{receivedPairs, reads, exact, number-20}
 use Rattle.order.proofs.Bools.{not-given}
-use Rattle.encoder.specs.Encode.{roomRule}
+use Rattle.told.specs.Room.{roomRule}
 use Rattle.decoder.specs.Decode.{listed}
 use Rattle.offers.specs.Whole.{Table}
 use Rattle.theorems.specs.Alike.{keptIn, imageFor, strictTo, saveTo}

@@ -15,7 +15,8 @@ use Rattle.gorilla.specs.Reading.{cutNumber, countOnes, readCode, readCodes, va
 use Rattle.gorilla.specs.Rows.{rowOf, strict}
 use Rattle.gorilla.specs.Wide.{wideAfter, wideIn, wideOf}
 use Rattle.keeping.specs.Keep.{evens}
-use Rattle.encoder.specs.Encode.{arraysRule, roomRule}
+use Rattle.encoder.specs.Encode.{arraysRule}
+use Rattle.told.specs.Room.{roomRule}
 use Rattle.offers.specs.Whole.{Table, whole}
 use Rattle.theorems.specs.Run.{new, Restoring, plain, naming, Event, offered, reloaded, step, ranTo, GoesOn}
 use Rattle.theorems.specs.Cases.{fifth}

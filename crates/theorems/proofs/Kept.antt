@@ -15,7 +15,7 @@ use Rattle.told.specs.Over.{over}
 use Rattle.limits.specs.Domain.{outside}
 use Rattle.keeping.specs.Keep.{appended, thinned}
 use Rattle.keeping.specs.Inner.{countWith}
-use Rattle.skipping.proofs.Difference.{inside-mag}
+use Rattle.order.proofs.Domain.{inside-mag}
 use Rattle.keeping.proofs.Thinned.{appended-old, appended-new}
 use Rattle.offers.proofs.Rise.{selected}
 

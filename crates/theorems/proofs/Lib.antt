@@ -11,4 +11,5 @@ pub mod Totals
 pub mod Run
 pub mod Lists
 mod Example
+mod DateCases
 pub mod Cases

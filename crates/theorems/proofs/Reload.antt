@@ -27,7 +27,7 @@ use Rattle.tracker.proofs.Good.{fine, sorted-again, few, count-seqs, count-secs
 use Rattle.tracker.proofs.Kept.{kept-at, pairs-kept}
 use Rattle.offers.proofs.Alike.{Alike, alike-check}
 use Rattle.offers.proofs.Rise.{over-length}
-use Rattle.encoder.specs.Encode.{roomRule}
+use Rattle.told.specs.Room.{roomRule}
 use Rattle.settling.specs.Settle.{lastOf}
 use Rattle.restoring.specs.Restore.{readTable, judged, restoreAt}
 use Rattle.restoring.specs.Interval.{withInterval}

@@ -17,7 +17,7 @@ use Rattle.order.proofs.Bools.{passed}
 use Rattle.totals.specs.Totals.{noTotals, sumOf, most}
 use Rattle.tracker.specs.Rest.{restOf}
 use Rattle.tracker.specs.declared.SequenceTracker.{SequenceTracker}
-use Rattle.encoder.specs.Encode.{roomRule}
+use Rattle.told.specs.Room.{roomRule}
 use Rattle.offers.specs.Offer.{Outcome}
 use Rattle.offers.specs.Rest.{offerRest}
 use Rattle.offers.specs.Whole.{Table, whole}

@@ -36,6 +36,7 @@ use Rattle.restoring.specs.Restore.{restoreOf, restoreAt}
 use Rattle.text.specs.Ascii.{ascii}
 use Rattle.report.specs.Listing.{listingOf}
 use Rattle.theorems.specs.Alike.{keptIn}
+use Rattle.theorems.specs.DateCases.{DateCases}
 use Rattle.theorems.specs.Run.{Restoring, plain, naming, offered, reloaded, step, ranTo}
 
 -- ---- what goes in
@@ -294,3 +295,5 @@ pub record Cases : Type 0 where
       × (readRule (0xFF ∷ []) (record { byte = 0; bit = 3 }) 65 ≡ refused (23 ∷ []))
   -- per array 4, 10, 5: a count of 2 for two arrays of one place, with no first value after it, gives 10; with two places, 5, at byte 9
   pub order : DecodeTells 1 (begun 2) (refused (10 ∷ 0 ∷ [])) × DecodeTells 2 (begun 2) (refused (5 ∷ 0 ∷ 9 ∷ 0 ∷ []))
+  -- dates: a table of their own
+  pub dates : DateCases

@@ -2,4 +2,5 @@ pub mod Alike
 pub mod Run
 pub mod Lists
 pub mod Totals
+pub mod DateCases
 pub mod Cases

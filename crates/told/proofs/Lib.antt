@@ -1,2 +1,3 @@
 pub mod Unique
 pub mod Places
+pub mod Room

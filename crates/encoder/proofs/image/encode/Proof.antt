@@ -8,7 +8,8 @@ use Rattle.told.specs.Told.{Told}
 use Rattle.told.specs.Over.{filled}
 use Rattle.gorilla.specs.Format.{imageBytes}
 use Rattle.encoder.specs.declared.EncodedLen.the-variants.{Bytes}
-use Rattle.encoder.specs.Encode.{toldLen, roomRule}
+use Rattle.encoder.specs.Encode.{toldLen}
+use Rattle.told.specs.Room.{roomRule}
 use Rattle.encoder.proofs.Rules.{Passed, len-given, len-refused, passed}
 use Rattle.encoder.proofs.image.encode.Statement.{statement}
 use Rattle.encoder.proofs.image.encode.Tie as tie

@@ -11,7 +11,8 @@ use Rattle.gorilla.specs.Format.{imageBytes}
 use Rattle.gorilla.specs.Wide.{wideOf}
 use Rattle.strict.specs.Inner.{foundWide}
 use Rattle.encoder.specs.declared.EncodedLen.the-variants.{Bytes}
-use Rattle.encoder.specs.Encode.{toldLen, arraysRule, roomRule}
+use Rattle.encoder.specs.Encode.{toldLen, arraysRule}
+use Rattle.told.specs.Room.{roomRule}
 use Rattle.encoder.proofs.Rules.{Passed, len-given, len-refused, passed}
 use Rattle.encoder.proofs.image.encode_strict.Statement.{statement}
 use Rattle.encoder.proofs.image.encode_strict.Tie as tie

@@ -6,8 +6,8 @@ use lib.ListN.{length}
 use Rattle.told.specs.Told.{Told, gave}
 use Rattle.told.specs.Over.{filled}
 use Rattle.gorilla.specs.Format.{imageBytes}
-use Rattle.encoder.specs.Encode.{roomRule}
-use Rattle.encoder.proofs.Rules.{no-room, enough}
+use Rattle.told.specs.Room.{roomRule}
+use Rattle.told.proofs.Room.{no-room, enough}
 use Rattle.lengths.proofs.Whole.{image-most}
 use Rattle.encoder.proofs.image.write_if_room.Statement.{statement}
 use Rattle.encoder.proofs.image.write_if_room.Tie as tie

@@ -1,0 +1,69 @@
+// Digits and bytes at a place of the text. What is not there is told by a number that no digits make.
+ghost use mathlib.Core.Path.{_≡_};
+ghost use Prim.Native.Nat.{_≤_};
+ghost use lib.ListN.{length};
+ghost use Rattle.date_reader.specs.Inner.{DigitAt, ByteAt, NumberAt, GroupAt};
+
+fn wide(x: u8) -> u64
+    ensures { λ r. ⌜ r ≡ x ⌝ }
+{
+    x as u64
+}
+
+// The digit at a place; 10 where there is none.
+pub fn digit_at(s: &[u8], at: usize) -> u64
+    ensures { λ r. ⌜ DigitAt (now (s .entry)) at r ⌝ }
+{
+    if s.len() <= at {
+        return 10;
+    }
+    let x = wide(s[at]);
+    if x < 48 {
+        return 10;
+    }
+    if 57 < x {
+        return 10;
+    }
+    x - 48
+}
+
+// The number of k digits from a place on; 10000 where they are not there.
+pub fn number_at(s: &[u8], at: usize, k: usize) -> u64
+    requires { ⌜ (k ≤ 4) × (at ≤ length (now s)) ⌝ }
+    ensures { λ r. ⌜ NumberAt (now (s .entry)) at k r ⌝ }
+{
+    let mut v: u64 = 0;
+    let mut i: usize = 0;
+    while i < k {
+        let d = digit_at(s, at + i);
+        if 9 < d {
+            return 10000;
+        }
+        v = v * 10 + d;
+        i += 1;
+    }
+    v
+}
+
+// Whether one of two bytes stands at a place.
+pub fn is_at(s: &[u8], at: usize, a: u8, b: u8) -> bool
+    ensures { λ r. ⌜ ByteAt (now (s .entry)) at a b r ⌝ }
+{
+    if s.len() <= at {
+        return false;
+    }
+    let x = s[at];
+    x == a || x == b
+}
+
+// The number of k digits with one of two bytes after them; 10000 where this is not there.
+pub fn group_at(s: &[u8], at: usize, k: usize, a: u8, b: u8) -> u64
+    requires { ⌜ (k ≤ 4) × (at ≤ length (now s)) ⌝ }
+    ensures { λ r. ⌜ GroupAt (now (s .entry)) at k a b r ⌝ }
+{
+    let n = number_at(s, at, k);
+    if 9999 < n {
+        return 10000;
+    }
+    if is_at(s, at + k, a, b) { n } else { 10000 }
+}

@@ -1,0 +1,2 @@
+pub mod DateText
+pub mod Inner
