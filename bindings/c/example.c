@@ -1,7 +1,9 @@
-/* A table from C: offers and why some are skipped, what they come to, a strict save, a restore, a lookup. The table outlives every refused call. */
+/* A table from C: offers and why some are skipped, what they come to, a strict save, a restore, lookups by sequence and by date. The table outlives every refused
+ * call. */
 #include "skutlaneb.h"
 
 #include <stdio.h>
+#include <string.h>
 
 /* The library was built for this layout. */
 _Static_assert(sizeof(struct skut_answer) == 48 && offsetof(struct skut_answer, a) == 8 && offsetof(struct skut_answer, byte) == 32, "skut_answer");
@@ -45,6 +47,34 @@ static void print_totals(const char *since, struct skut_totals totals)
            (unsigned long long)totals.went_back, (unsigned long long)totals.too_soon, (unsigned long long)totals.refused);
 }
 
+/* Prints the date of a sequence's second, and gives whether it has one. A date has twenty bytes and no zero byte after them. */
+static int print_date_of(struct skut_state table, uint64_t seq)
+{
+    uint8_t date[20];
+    struct skut_answer found = skut_find_ts(table, seqs, PLACES, secs, PLACES, seq, SKUT_ROUND_DOWN);
+    if (found.number != SKUT_DONE || found.a != 1 || skut_write_date((int64_t)found.b, date, sizeof date).number != SKUT_DONE) {
+        return 0;
+    }
+    printf("sequence %llu: second %lld or later, %.20s\n", (unsigned long long)seq, (long long)(int64_t)found.b, (const char *)date);
+    return 1;
+}
+
+/* Prints the last sequence as of a date, which may have an offset and a fraction, or why it is no date, and gives whether it could. */
+static int print_as_of(struct skut_state table, const char *date)
+{
+    struct skut_answer read = skut_read_date((const uint8_t *)date, strlen(date));
+    if (read.number != SKUT_DONE) {
+        printf("as of %s: refused %u\n", date, read.number);
+        return 1;
+    }
+    struct skut_answer found = skut_find_seq(table, seqs, PLACES, secs, PLACES, (int64_t)read.a, SKUT_ROUND_DOWN);
+    if (found.number != SKUT_DONE || found.a != 1) {
+        return 0;
+    }
+    printf("as of %s: sequence %llu\n", date, (unsigned long long)found.b);
+    return 1;
+}
+
 int main(void)
 {
     const uint64_t from_seqs[] = {100, 164, 170, 170, 170, 150};
@@ -85,11 +115,12 @@ int main(void)
 
     said = skut_restore_with_interval(image, saved.a, seqs, PLACES, secs, PLACES, INTERVAL_SECS);
     table = kept(table, said);
-    struct skut_answer found = skut_find_ts(table, seqs, PLACES, secs, PLACES, 163, SKUT_ROUND_DOWN);
-    if (said.answer.number != SKUT_DONE || found.number != SKUT_DONE || found.a != 1) {
+    if (said.answer.number != SKUT_DONE || !print_date_of(table, 163)) {
         return 1;
     }
-    printf("sequence 163: second %lld or later\n", (long long)(int64_t)found.b);
+    if (!print_as_of(table, "1970-01-01T01:01:59.5+01:00") || !print_as_of(table, "1970-01-01T24:00:00Z")) {
+        return 1;
+    }
     print_totals("restored", table.totals); /* an image does not carry them */
     return 0;
 }

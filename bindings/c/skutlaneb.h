@@ -3,7 +3,7 @@
  *
  * No argument makes a call misread, as long as each pointer and its length name memory of the caller's own that stays allocated and that nothing
  * else changes during the call, an array of uint64_t or int64_t is aligned for its type (to 8 bytes), and what a call writes to overlaps nothing else of
- * the same call: numbers that make no table, width or length are then refused by a number of the list below; only `round` takes any number. A length counts values, not bytes. Where it is 0, its pointer
+ * the same call: numbers that make no table, width, length or date are then refused by a number of the list below; only `round` takes any number. A length counts values, not bytes. Where it is 0, its pointer
  * is not used and may be NULL.
  *
  * Why an output may not overlap an input: the proofs take the arrays of a call to be apart. A call looks over its input first and reads it again
@@ -122,6 +122,9 @@ enum {
     SKUT_INPUT_TOO_LONG = 22,   /* the input of the program listing is above 16,384 bytes; no call here answers it */
     SKUT_WIDTH = 23,            /* a bit width is above 64, or outside 1..32 in sign extension */
     SKUT_BITS_SHORT = 24,       /* fewer bits are left than asked for: the bits left, 0 to 63 */
+    SKUT_DATE_GRAMMAR = 25,     /* the text is not a date-time of RFC 3339's grammar, or its fraction has more than nine digits */
+    SKUT_NO_SUCH_TIME = 26,     /* the text is of that form, but there is no such date, time of day or offset */
+    SKUT_DATE_OUTSIDE = 27,     /* the second to write, or the one read once the offset is applied, is outside the years 0001 to 9999 */
     SKUT_TOTALS_FULL = 31       /* the totals add up to 2^64-1, and one more offer would pass that: of a list, the position */
 };
 
@@ -225,6 +228,17 @@ struct skut_answer skut_read_bits(const uint8_t *s, size_t s_len, size_t byte, u
 /* Writes the low 0 to 64 bits of a value: the place after them in a and b: 23, 21. The bits before the place stay, what is left of the last byte written
  * becomes 0; a write of no bits changes nothing. Stack: 256 bytes. */
 struct skut_answer skut_write_bits(uint8_t *buf, size_t buf_len, size_t byte, uint8_t bit, uint64_t value, uint8_t width);
+
+/* ---- Dates, as RFC 3339 writes them. The texts have no zero byte at their end. */
+
+/* Writes the date of a second as YYYY-MM-DDTHH:MM:SSZ, and a is its length, 20: 27, 21. Bytes past the twenty stay. The order of two seconds is that of their
+ * dates by memcmp, and skut_read_date gives the second back. Stack: 384 bytes. */
+struct skut_answer skut_write_date(int64_t sec, uint8_t *out, size_t out_len);
+
+/* The second of a date-time, by its 64 bits in a: 25, 26, 27, in this order. The date-time is all of the bytes: YYYY-MM-DD, `T` or `t`, HH:MM:SS; then, or not,
+ * a point and one to nine digits, which are left out, so that the second is the one that has begun, also before 1970; then `Z`, `z`, +HH:MM or -HH:MM. Year
+ * 0000, second 60, and an offset's hours above 23 or minutes above 59 are refused by 26. Stack: 512 bytes. */
+struct skut_answer skut_read_date(const uint8_t *bytes, size_t bytes_len);
 
 #ifdef __cplusplus
 }

@@ -61,6 +61,7 @@ void reason_cases(void);
 void place_cases(void);
 void interval_cases(void);
 void total_cases(void);
+void date_cases(void);
 
 /* Prints `N passed, M failed`, and gives whether nothing failed. */
 int all_passed(void);

@@ -13,5 +13,6 @@ int main(void)
     place_cases();
     interval_cases();
     total_cases();
+    date_cases();
     return all_passed() ? 0 : 1;
 }

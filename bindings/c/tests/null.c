@@ -118,6 +118,13 @@ static void bits(void)
     answers("skut_write_bits", "65 bits to NULL", skut_write_bits(NONE, 0, 0, 1, 65), SKUT_WIDTH, 0, 0, 0);
 }
 
+static void dates(void)
+{
+    answers("skut_write_date", "the output NULL", skut_write_date(0, NONE), SKUT_ROOM, 20, 0, 0);
+    answers("skut_write_date", "the output NULL, 27 first", skut_write_date(INT64_MAX, NONE), SKUT_DATE_OUTSIDE, 0, 0, 0);
+    answers("skut_read_date", "the bytes NULL", skut_read_date(NONE), SKUT_DATE_GRAMMAR, 0, 0, 0);
+}
+
 void null_cases(void)
 {
     const struct lending lendings[] = {
@@ -133,4 +140,5 @@ void null_cases(void)
     encoders();
     readers();
     bits();
+    dates();
 }

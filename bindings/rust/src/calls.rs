@@ -92,3 +92,11 @@ pub fn read_bits(bytes: &[u8], byte: usize, bit: u8, width: u8) -> Answer {
 pub fn write_bits(buf: &mut [u8], byte: usize, bit: u8, value: u64, width: u8) -> Answer {
     unsafe { sys::skut_write_bits(buf.as_mut_ptr(), buf.len(), byte, bit, value, width) }
 }
+
+pub fn write_date(sec: i64, out: &mut [u8]) -> Answer {
+    unsafe { sys::skut_write_date(sec, out.as_mut_ptr(), out.len()) }
+}
+
+pub fn read_date(bytes: &[u8]) -> Answer {
+    unsafe { sys::skut_read_date(bytes.as_ptr(), bytes.len()) }
+}

@@ -99,6 +99,12 @@ pub enum Error {
     Width,
     /// 24: fewer bits are left than asked for, and how many are: 0 to 63.
     BitsShort { left: u8 },
+    /// 25: the text is not a date-time of RFC 3339's grammar, or its fraction has more than nine digits.
+    DateGrammar,
+    /// 26: the text is of that form, but there is no such date, time of day or offset. Year 0000 and second 60 are refused by this, too.
+    NoSuchTime,
+    /// 27: the second is outside the years 0001 to 9999: the one to write as a date or, of a text, the one that is left once its offset is applied.
+    DateOutside,
     /// 31: the table's totals add up to 2^64-1, and one more offer would pass that. The offer is not counted.
     TotalsFull,
     /// A number that is not on the list: the library is not the one that this crate was written for.
@@ -133,6 +139,9 @@ impl Error {
             Error::InputTooLong => 22,
             Error::Width => 23,
             Error::BitsShort { .. } => 24,
+            Error::DateGrammar => 25,
+            Error::NoSuchTime => 26,
+            Error::DateOutside => 27,
             Error::TotalsFull => 31,
             Error::Unlisted { number } => number,
         }
@@ -177,6 +186,9 @@ impl Error {
             22 => Error::InputTooLong,
             23 => Error::Width,
             24 => Error::BitsShort { left: answer.a as u8 },
+            25 => Error::DateGrammar,
+            26 => Error::NoSuchTime,
+            27 => Error::DateOutside,
             31 => Error::TotalsFull,
             number => Error::Unlisted { number },
         })
@@ -220,6 +232,9 @@ impl fmt::Display for Error {
             Error::BitsShort { left: 0 } => f.write_str("no bit is left, and more were asked for"),
             Error::BitsShort { left: 1 } => f.write_str("only 1 bit is left, and more were asked for"),
             Error::BitsShort { left } => write!(f, "only {left} bits are left, and more were asked for"),
+            Error::DateGrammar => f.write_str("the text is not a date-time of RFC 3339, such as 1970-01-01T00:00:00Z"),
+            Error::NoSuchTime => f.write_str("there is no such date, time of day or offset"),
+            Error::DateOutside => f.write_str("the date, in UTC, is outside the years 0001 to 9999"),
             Error::TotalsFull => f.write_str("the table has counted 2^64-1 offers, and cannot count one more"),
             Error::Unlisted { number } => {
                 write!(f, "the library answered {number}, which this crate does not know: the two are of different versions")

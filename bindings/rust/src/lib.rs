@@ -25,6 +25,8 @@
 //! was, but that a pair which is refused with 16 or 17 is counted; [`SequenceTracker::insert_all`] and [`SequenceTracker::extend_from`] keep what came of the
 //! pairs before the refused one.
 //!
+//! A second is written as a date by [`Second::to_rfc3339`] and read from one by [`Second::from_rfc3339`]; [`Rfc3339`] is the date.
+//!
 //! [`image`] writes and reads images with no table, [`bits`] has the library's calls for bits, and [`sys`] the library's functions as they are.
 //!
 //! The library is `libskutlaneb.a`, for x86-64; `rt staticlib skutlaneb` in the project's folder writes it. Its calls use no heap; this crate
@@ -34,6 +36,7 @@
 pub mod bits;
 #[allow(unsafe_code)]
 mod calls;
+mod dates;
 mod error;
 pub mod image;
 mod lists;
@@ -42,6 +45,7 @@ mod times;
 mod tracker;
 mod values;
 
+pub use dates::Rfc3339;
 pub use error::{Array, Error};
 pub use lists::{ListError, Tally};
 pub use times::NoSystemTime;

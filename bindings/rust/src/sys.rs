@@ -87,6 +87,8 @@ extern "C" {
     pub fn skut_sign_extend(val: u32, bits: u8) -> Answer;
     pub fn skut_read_bits(s: *const u8, n: usize, byte: usize, bit: u8, width: u8) -> Answer;
     pub fn skut_write_bits(buf: *mut u8, n: usize, byte: usize, bit: u8, value: u64, width: u8) -> Answer;
+    pub fn skut_write_date(sec: i64, out: *mut u8, n: usize) -> Answer;
+    pub fn skut_read_date(bytes: *const u8, n: usize) -> Answer;
     /// Does nothing: the number in its name is that of the structs' layout, and goes up with each change of one.
     pub fn skut_layout_4();
 }

@@ -5,7 +5,8 @@ use std::fmt;
 #[derive(Clone, Copy, Debug, PartialEq, Eq, PartialOrd, Ord, Hash)]
 pub struct Seq(pub u64);
 
-/// Seconds since 1970-01-01T00:00:00Z, negative before it.
+/// Seconds since 1970-01-01T00:00:00Z, negative before it. It prints as that number; [`Second::to_rfc3339`] gives its date, and [`Second::from_rfc3339`] the
+/// second of one.
 ///
 /// A [`SystemTime`](std::time::SystemTime) becomes a `Second` by `from`, and a `Second` one of those by `try_from`. This crate does not depend on chrono.
 /// With it, a `DateTime<Utc>` becomes the second that slatedb takes from it, and a second the date that slatedb answers, by these lines:

@@ -4,6 +4,7 @@ mod arrays;
 mod bits;
 mod chance;
 mod claims;
+mod dates;
 mod errors;
 mod images;
 mod intervals;
@@ -24,6 +25,6 @@ mod values;
 pub extern "C" fn main(_argc: i32, _argv: *const *const u8) -> i32 {
     let tracker = [tables::CASES, pairs::CASES, lists::CASES, reasons::CASES, totals::CASES];
     let stored = [images::CASES, intervals::CASES, places::CASES, claims::CASES, runs::CASES];
-    let others = [values::CASES, times::CASES, errors::CASES, arrays::CASES, bits::CASES, raw::CASES, stack::CASES];
+    let others = [values::CASES, times::CASES, dates::CASES, errors::CASES, arrays::CASES, bits::CASES, raw::CASES, stack::CASES];
     run::run(&[tracker.concat(), stored.concat(), others.concat()].concat())
 }

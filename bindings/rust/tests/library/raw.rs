@@ -37,6 +37,8 @@ fn no_memory() {
         assert_eq!(sys::skut_encoded_len(null(), 0, null(), 0), Answer { a: 13, ..Answer::default() });
         assert_eq!(sys::skut_encode(null(), 0, null(), 0, null_mut(), 0), Answer { number: 21, a: 13, ..Answer::default() });
         assert_eq!(sys::skut_read_bits(null(), 0, 0, 0, 1).number, 24);
+        assert_eq!(sys::skut_write_date(0, null_mut(), 0), Answer { number: 21, a: 20, ..Answer::default() });
+        assert_eq!(sys::skut_read_date(null(), 0), Answer { number: 25, ..Answer::default() });
     }
 }
 

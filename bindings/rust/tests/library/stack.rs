@@ -8,12 +8,16 @@ use std::mem::size_of;
 
 pub const CASES: &[Case] = &[
     ("no call needs more stack than the header says", stack),
-    ("nor does one that is refused for its interval or its offer, or where bytes, bits or a list of offers stop", refused),
+    ("nor does one that is refused for its interval, its offer or its date, or where bytes, bits or a list of offers stop", refused),
 ];
 
 const HEADER: &str = include_str!("../../../c/skutlaneb.h");
 const PAIRS: usize = 8192;
 const ROOM: usize = 80_000;
+
+/// A second whose date is far from 1970, and a date-time with all that one may have.
+const LATE: i64 = 253_402_300_799;
+const LONG: &str = "2024-02-29T23:59:59.123456789-23:59";
 
 /// A full table, and memory for its image.
 struct Lent {
@@ -74,6 +78,8 @@ fn calls(l: &mut Lent) -> Vec<Call> {
         ("skut_sign_extend", sys::skut_sign_extend as *const (), words(&[64, 7])),
         ("skut_read_bits", sys::skut_read_bits as *const (), words(&[b, room, 3, 3, 64])),
         ("skut_write_bits", sys::skut_write_bits as *const (), words(&[b, room, 3, 3, 7, 64])),
+        ("skut_write_date", sys::skut_write_date as *const (), words(&[LATE as u64, b, room])),
+        ("skut_read_date", sys::skut_read_date as *const (), words(&[LONG.as_ptr() as u64, LONG.len() as u64])),
     ]
 }
 
@@ -181,6 +187,13 @@ fn refused() {
             let extended = table().chain([Table(other)]).chain(words(&one)).collect();
             calls.push((number, ("skut_extend_from", sys::skut_extend_from as *const (), extended)));
         }
+    }
+    let date = |text: &'static str| ("skut_read_date", sys::skut_read_date as *const (), words(&[text.as_ptr() as u64, text.len() as u64]));
+    calls.push((25, date("2024-02-29T23:59:59.123456789-23:5x")));
+    calls.push((26, date("2023-02-29T23:59:59.123456789-23:59")));
+    calls.push((27, date("9999-12-31T23:59:59.123456789-23:59")));
+    for (number, sec) in [(27, i64::MAX), (21, LATE)] {
+        calls.push((number, ("skut_write_date", sys::skut_write_date as *const (), words(&[sec as u64, s, 19]))));
     }
     for (number, call) in &calls {
         let ((answered, used), most) = (stack_of(call), declared(call.0));

@@ -2,7 +2,9 @@
 use crate::run::Case;
 use crate::tables::pair;
 use skutlaneb::bits::Place;
-use skutlaneb::{Array, Error, FindOption, Inserted, ListError, NoSystemTime, Pairs, Second, Seq, SequenceTracker, Tally, Totals, TrackedSeq};
+use skutlaneb::{
+    Array, Error, FindOption, Inserted, ListError, NoSystemTime, Pairs, Rfc3339, Second, Seq, SequenceTracker, Tally, Totals, TrackedSeq,
+};
 use std::collections::HashSet;
 use std::hash::Hash;
 
@@ -54,11 +56,12 @@ fn keys() {
     assert_eq!(distinct([ListError::Own(Error::Empty), ListError::Other(Error::Empty)]), 2);
     assert_eq!(distinct([NoSystemTime(Second(1)), NoSystemTime(Second(2))]), 2);
     assert_eq!(distinct([Place { byte: 1, bit: 0 }, Place { byte: 0, bit: 1 }]), 2);
+    assert_eq!(distinct([0, 1, 0].map(|second| Second(second).to_rfc3339().unwrap())), 2);
 }
 
 fn threads() {
     fn goes<T: Send + Sync + Unpin + std::panic::UnwindSafe + 'static>() {}
-    goes::<(SequenceTracker, Pairs<'static>, Totals, Error, ListError, NoSystemTime)>();
+    goes::<(SequenceTracker, Pairs<'static>, Totals, Error, ListError, NoSystemTime, Rfc3339)>();
 }
 
 fn readme() {
