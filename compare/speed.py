@@ -75,8 +75,8 @@ def ratio(row):
     return f"{r:.2f}" if r < 10 else f"{r:,.0f}"
 
 
-def table(head, rows, times):
-    lines = [f"| {head} | Rust | Ours | Ours / Rust | Time, ours / Rust |", "|---|---|---|---|---|"]
+def table(head, rows, times, theirs="Rust"):
+    lines = [f"| {head} | {theirs} | Ours | Ours / {theirs} | Time, ours / {theirs} |", "|---|---|---|---|---|"]
     lines += [f"| {name} | {row['rust']:,} | {row['ours']:,} | {ratio(row)} | {ratio(times.get(name))} |" for name, row in rows]
     return "\n".join(lines) + "\n"
 
@@ -118,6 +118,10 @@ def page(found, times, digest):
         f"The check takes {check:.1f} instructions a kept pair. The search alone is what 1,000 lookups take beyond 1,000 calls of `skut_check` on the same table; it is counted only. "
         "All are by sequence; they round down, those marked up round up. Equal: all pairs are equal, and their sequence is asked for, so that every answer is the same.\n",
         table("Work, data, pairs", rows(lambda n: "lookups" in n) + searches, times),
+        "## Dates\n",
+        "Beside chrono: `to_rfc3339_opts` of a `DateTime` made from the second, which makes a `String`, and `parse_from_rfc3339`. Ours writes into twenty bytes. "
+        "The seconds are those of mixed data, all in one November, or go evenly through the years 0001 to 9999; ours passes the months before a date's one by one.\n",
+        table("Work, seconds", rows(lambda n: "dates" in n), times, "chrono"),
         "## Growth: our instructions a pair\n",
         growth(found),
     ])

@@ -2,11 +2,12 @@
 //! the Rust's before it is counted. A line `mark N WORK, DATA, PAIRS, SIDE` names each mark; `time NANOSECONDS WORK, DATA, PAIRS, SIDE` has
 //! the least time of several.
 use super::super::*;
-use super::chance::Chance;
+use super::chance::{Chance, FIRST_SECOND, LAST_SECOND};
 use super::lent::{self, Lent};
 use super::offers::table_of;
 use super::ours::{self, Table};
 use super::theirs;
+use chrono::SecondsFormat;
 use std::hint::black_box;
 use std::time::{Duration, Instant};
 
@@ -113,6 +114,16 @@ fn rust_find<const UP: bool>(t: &SequenceTracker, seqs: &[u64]) -> i64 {
     seqs.iter().map(|&q| t.find_ts(q, option()).map_or(0, |d| d.timestamp())).fold(0, i64::wrapping_add)
 }
 
+#[inline(never)]
+fn rust_write_date(sec: i64) -> String {
+    theirs::instant(sec).to_rfc3339_opts(SecondsFormat::Secs, true)
+}
+
+#[inline(never)]
+fn rust_read_date(text: &str) -> i64 {
+    DateTime::parse_from_rfc3339(text).map_or(0, |at| at.timestamp())
+}
+
 fn images(bench: &mut Bench, data: &str, n: usize) {
     let chance = &mut Chance::new(3);
     let t = sample(data, n);
@@ -193,6 +204,26 @@ fn offers(bench: &mut Bench, became: &str, interval: u64, second: fn(i64) -> i64
     assert_eq!((&t.sequence_numbers[..], &t.timestamps[..]), (&ours.seqs.places()[..n], &ours.secs.places()[..n]));
 }
 
+/// 1,000 dates, beside chrono's, whose text is a new `String` each time.
+fn dates(bench: &mut Bench, data: &str, secs: &[i64]) {
+    let texts: Vec<String> = secs.iter().map(|&sec| rust_write_date(sec)).collect();
+    let mut out = lent::bytes(&mut Chance::new(6), 20);
+    for (&sec, text) in secs.iter().zip(&texts) {
+        ours::write_date(sec, &mut out);
+        assert_eq!((out.places(), ours::read_date(text.as_bytes()).a as i64), (text.as_bytes(), sec));
+    }
+    bench.work(
+        &format!("1,000 dates written, {data}"),
+        || black_box(secs).iter().map(|&sec| rust_write_date(sec).len()).sum::<usize>(),
+        || black_box(secs).iter().map(|&sec| ours::write_date(sec, &mut out).a as usize).sum(),
+    );
+    bench.work(
+        &format!("1,000 dates read, {data}"),
+        || black_box(&texts).iter().map(|text| rust_read_date(text)).fold(0, i64::wrapping_add),
+        || black_box(&texts).iter().map(|text| ours::read_date(text.as_bytes()).a as i64).fold(0, i64::wrapping_add),
+    );
+}
+
 pub fn main(timed: bool) {
     let mut bench = Bench { marks: 0, timed };
     for data in ["regular", "mixed"] {
@@ -210,4 +241,7 @@ pub fn main(timed: bool) {
             offers(&mut bench, became, interval, second, ready);
         }
     }
+    let step = (LAST_SECOND - FIRST_SECOND) / 999;
+    dates(&mut bench, "mixed", &sample("mixed", 1000).timestamps);
+    dates(&mut bench, "all years", &(0..1000).map(|i| FIRST_SECOND + i * step).collect::<Vec<i64>>());
 }

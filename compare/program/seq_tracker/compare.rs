@@ -4,6 +4,7 @@
 mod bench;
 mod bits;
 mod chance;
+mod dates;
 mod encoders;
 mod lent;
 mod lists;
@@ -58,6 +59,7 @@ pub(crate) fn main(words: Vec<String>) -> i32 {
     offers::exhaustive(&mut tally);
     lists::exhaustive(&mut tally);
     lookups::exhaustive(&mut tally);
+    dates::exhaustive(&mut tally);
     for _ in 0..rounds {
         bits::random(&mut tally, &mut chance);
         encoders::random(&mut tally, &mut chance);
@@ -68,6 +70,10 @@ pub(crate) fn main(words: Vec<String>) -> i32 {
         stores::random(&mut tally, &mut chance);
         refusals::random(&mut tally, &mut chance);
         totals::random(&mut tally, &mut chance);
+    }
+    // dates last: what is random before them is the same as without them
+    for _ in 0..rounds {
+        dates::random(&mut tally, &mut chance);
     }
     tally.print();
     0

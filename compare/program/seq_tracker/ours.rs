@@ -36,6 +36,15 @@ pub fn write_bits(buf: &mut Lent<u8>, byte: usize, bit: u8, value: u64, width: u
     unsafe { linked::skut_write_bits(p, n, byte, bit, value, width) }
 }
 
+pub fn write_date(sec: i64, out: &mut Lent<u8>) -> Answer {
+    let (p, n) = out.of_mut();
+    unsafe { linked::skut_write_date(sec, p, n) }
+}
+
+pub fn read_date(bytes: &[u8]) -> Answer {
+    unsafe { linked::skut_read_date(bytes.as_ptr(), bytes.len()) }
+}
+
 pub fn encoded_len(seqs: &[u64], secs: &[i64]) -> Answer {
     unsafe { linked::skut_encoded_len(seqs.as_ptr(), seqs.len(), secs.as_ptr(), secs.len()) }
 }

@@ -5,7 +5,9 @@ use std::fmt::Debug;
 pub struct Tally {
     /// answers that the Rust gives too
     rust: BTreeMap<&'static str, u64>,
-    /// answers that the Rust does not have: the rules (docs/RULES.md) alone say what they are
+    /// answers about dates that chrono gives too
+    chrono: BTreeMap<&'static str, u64>,
+    /// answers that the Rust does not have, and of which chrono has none or another one: the rules (docs/RULES.md) alone say what they are
     rules: BTreeMap<&'static str, u64>,
     /// refused calls after which every lent place was looked at
     untouched: u64,
@@ -18,7 +20,7 @@ fn differ(kind: &str, what: &str, input: String, theirs: &dyn Debug, ours: &dyn 
 
 impl Tally {
     pub fn new() -> Tally {
-        Tally { rust: BTreeMap::new(), rules: BTreeMap::new(), untouched: 0 }
+        Tally { rust: BTreeMap::new(), chrono: BTreeMap::new(), rules: BTreeMap::new(), untouched: 0 }
     }
 
     /// The Rust's answer and ours.
@@ -27,6 +29,14 @@ impl Tally {
             differ(kind, "the Rust", input(), theirs, ours);
         }
         *self.rust.entry(kind).or_default() += 1;
+    }
+
+    /// chrono's answer and ours.
+    pub fn dated<A: PartialEq + Debug>(&mut self, kind: &'static str, input: impl Fn() -> String, theirs: &A, ours: &A) {
+        if theirs != ours {
+            differ(kind, "chrono", input(), theirs, ours);
+        }
+        *self.chrono.entry(kind).or_default() += 1;
     }
 
     /// What the rules say and our answer.
@@ -52,13 +62,16 @@ impl Tally {
 
     pub fn print(&self) {
         let total = |counts: &BTreeMap<_, u64>| counts.values().sum::<u64>();
-        println!("\ncompared with the Rust:");
-        self.rust.iter().for_each(|(kind, n)| println!("  {kind}: {n}"));
-        println!("  in all: {}", total(&self.rust));
-        println!("\nheld to the rules (docs/RULES.md), where the Rust has no answer:");
-        self.rules.iter().for_each(|(kind, n)| println!("  {kind}: {n}"));
-        println!("  in all: {}", total(&self.rules));
+        for (head, counts) in [
+            ("compared with the Rust:", &self.rust),
+            ("compared with chrono:", &self.chrono),
+            ("held to the rules (docs/RULES.md), where the Rust has no answer, and chrono none or another one:", &self.rules),
+        ] {
+            println!("\n{head}");
+            counts.iter().for_each(|(kind, n)| println!("  {kind}: {n}"));
+            println!("  in all: {}", total(counts));
+        }
         println!("\nrefused calls that left every lent place as it was: {}", self.untouched);
-        println!("\n{} comparisons with the Rust, 0 differences", total(&self.rust));
+        println!("\n{} comparisons with the Rust and {} with chrono, 0 differences", total(&self.rust), total(&self.chrono));
     }
 }
