@@ -50,7 +50,7 @@ read-back (dv.At s) = refl
 read-back (dv.Refused r) = ap dv.Refused (refusal-back r)
 
 -- `write_date`: its answer, and the output
-one-left : (t : Told ℕ) (z : ℤ) (out x y : List ℕ) → LeavesDate t z out x → LeavesDate t z out y → x ≡ y
+pub one-left : (t : Told ℕ) (z : ℤ) (out x y : List ℕ) → LeavesDate t z out x → LeavesDate t z out y → x ≡ y
 one-left (gave n) z out x y h k = h .2 ∙ ap (λ t. over t out) (one-text z (h .0) (k .0) (h .1) (k .1)) ∙ sym (k .2)
 one-left (refused l) z out x y h k = h ∙ sym k
 
