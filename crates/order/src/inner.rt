@@ -52,6 +52,14 @@ pub fn sec_outside(secs: &[i64], n: usize) -> usize
             }
         }
     }
+    first_outside(secs, n)
+}
+
+// The same of seconds in any order.
+pub fn first_outside(secs: &[i64], n: usize) -> usize
+    requires { ⌜ n ≤ length (now secs) ⌝ }
+    ensures { λ r. ⌜ r ≡ first (secOutside (now (secs .entry))) n ⌝ }
+{
     let mut i = 0;
     while i < n {
         if steps::sec_outside_at(secs, i) {

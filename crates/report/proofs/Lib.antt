@@ -1,3 +1,5 @@
 pub mod Lengths
+mod Thirds
 pub mod Answers
+mod Both
 pub mod Unique

@@ -1,23 +1,23 @@
--- The text that `listing` prints, as bytes (docs/RULES.md, "The listing").
+-- The text that `listing` and `listing_dates` print, as bytes (docs/RULES.md, "The listing").
 use Prim.Native.Nat.{ℕ, zero, suc}
 use mathlib.Core.List.{List, [], _++_}
 use lib.IntN.{ℤ, pos}
 use lib.ListN.{getD}
 use Rattle.text.specs.Ascii.{ascii}
-use Rattle.text.specs.Text.{decimal, signedDecimal, wordLine}
+use Rattle.text.specs.Text.{decimal, wordLine}
 
--- the line of the pair at position i: position, sequence, second, single spaces
-unfoldable pub line : ℕ → ℕ → ℤ → List ℕ
-line i seq sec = decimal i ++ ascii " " ++ decimal seq ++ ascii " " ++ signedDecimal sec ++ ascii "\n"
+-- the line of the pair at position i: position, sequence, and in the third field what `third` makes of the second; single spaces
+unfoldable pub line : (ℤ → List ℕ) → ℕ → ℕ → ℤ → List ℕ
+line third i seq sec = decimal i ++ ascii " " ++ decimal seq ++ ascii " " ++ third sec ++ ascii "\n"
 
 -- the lines of the first n pairs
-unfoldable pub lines : List ℕ → List ℤ → ℕ → List ℕ
-lines seqs secs zero = []
-lines seqs secs (suc n) = lines seqs secs n ++ line n (getD seqs n 0) (getD secs n (pos 0))
+unfoldable pub lines : (ℤ → List ℕ) → List ℕ → List ℤ → ℕ → List ℕ
+lines third seqs secs zero = []
+lines third seqs secs (suc n) = lines third seqs secs n ++ line third n (getD seqs n 0) (getD secs n (pos 0))
 
 -- `entries` and the count n, then a line for each of the first n pairs
-unfoldable pub entriesText : List ℕ → List ℤ → ℕ → List ℕ
-entriesText seqs secs n = wordLine (ascii "entries ") n ++ lines seqs secs n
+unfoldable pub entriesText : (ℤ → List ℕ) → List ℕ → List ℤ → ℕ → List ℕ
+entriesText third seqs secs n = wordLine (ascii "entries ") n ++ lines third seqs secs n
 
 -- `refused` and the number n
 unfoldable pub refusedText : ℕ → List ℕ

@@ -1,7 +1,8 @@
 use borrow.Author.Needs.{needs}
 use native.Mathlib.Omega.{arith}
 use Rattle.text.specs.Ascii.{ascii}
-use Rattle.report.specs.Lines.{entriesText}
+use Rattle.report.specs.Lines.{lines, entriesText}
+use Rattle.report.specs.Inner.{thirdOf}
 use Rattle.text.proofs.Putting.{then, put-length}
 use Rattle.text.proofs.Numbers.{word-length}
 use Rattle.report.proofs.lines.put_entries.Statement.{statement}
@@ -27,7 +28,8 @@ unfolding entriesText
 returns c =
     let pl = c .before .before in
     let pw = pl .before .before .before .before in
-    then (pw .put-word-line .ensures) (pl .put-lines .ensures)
+    let a = pw .before .before .before .before .before .args in
+    then {y = lines (thirdOf (a .dates)) (a .seqs .now) (a .secs .now) (a .count)} (pw .put-word-line .ensures) (pl .put-lines .ensures)
 
 pub put-entries-spec : {M : Type 1} → statement M
 put-entries-spec =

@@ -4,7 +4,8 @@ use Prim.Native.Nat.{_-_}
 use mir.Facts.{toZ-ofZ}
 use Rattle.report.specs.Lines.{line}
 use Rattle.text.proofs.Putting.{then, next}
-use Rattle.text.proofs.Numbers.{decimal-length, signed-length}
+use Rattle.text.proofs.Numbers.{decimal-length}
+use Rattle.report.proofs.Lengths.{third-length}
 use Rattle.report.proofs.lines.put_line.Statement.{statement}
 use Rattle.report.proofs.lines.put_line.Tie as tie
 
@@ -15,7 +16,7 @@ put-byte-requires : tie.Need-put-byte-requires
 put-byte-requires c κs =
     let x1 = c .before .before .before in
     let st = x1 .before .before .before in
-    let r1 = next 20 44 (x1 .put-decimal .ensures) (decimal-length (st .args .i)) (st .pre) in
+    let r1 = next 20 44 (x1 .put-decimal .ensures) (decimal-length (st .args .i)) (st .pre .1) in
     omega (arith, r1)
 
 put-decimal-requires-2 : tie.Need-put-decimal-requires-2
@@ -23,7 +24,7 @@ put-decimal-requires-2 c κs =
     let x2 = c .before .before .before in
     let x1 = x2 .before .before .before .before in
     let st = x1 .before .before .before in
-    let r1 = next 20 44 (x1 .put-decimal .ensures) (decimal-length (st .args .i)) (st .pre) in
+    let r1 = next 20 44 (x1 .put-decimal .ensures) (decimal-length (st .args .i)) (st .pre .1) in
     let r2 = next 1 43 (x2 .put-byte .ensures) (omega arith) r1 in
     omega (arith, r2)
 
@@ -33,23 +34,23 @@ put-byte-requires-2 c κs =
     let x2 = x3 .before .before .before .before in
     let x1 = x2 .before .before .before .before in
     let st = x1 .before .before .before in
-    let r1 = next 20 44 (x1 .put-decimal .ensures) (decimal-length (st .args .i)) (st .pre) in
+    let r1 = next 20 44 (x1 .put-decimal .ensures) (decimal-length (st .args .i)) (st .pre .1) in
     let r2 = next 1 43 (x2 .put-byte .ensures) (omega arith) r1 in
     let r3 = next 20 23 (x3 .put-decimal2 .ensures) (decimal-length (st .args .seq)) r2 in
     omega (arith, r3)
 
-put-signed-requires : tie.Need-put-signed-requires
-put-signed-requires c κs =
+put-third-requires : tie.Need-put-third-requires
+put-third-requires c κs =
     let x4 = c .before .before .before in
     let x3 = x4 .before .before .before .before in
     let x2 = x3 .before .before .before .before in
     let x1 = x2 .before .before .before .before in
     let st = x1 .before .before .before in
-    let r1 = next 20 44 (x1 .put-decimal .ensures) (decimal-length (st .args .i)) (st .pre) in
+    let r1 = next 20 44 (x1 .put-decimal .ensures) (decimal-length (st .args .i)) (st .pre .1) in
     let r2 = next 1 43 (x2 .put-byte .ensures) (omega arith) r1 in
     let r3 = next 20 23 (x3 .put-decimal2 .ensures) (decimal-length (st .args .seq)) r2 in
     let r4 = next 1 22 (x4 .put-byte2 .ensures) (omega arith) r3 in
-    omega (arith, r4)
+    (rw (toZ-ofZ (st .fits .sec)) (st .pre .0), omega (arith, r4))
 
 put-byte-requires-3 : tie.Need-put-byte-requires-3
 put-byte-requires-3 c κs =
@@ -59,11 +60,11 @@ put-byte-requires-3 c κs =
     let x2 = x3 .before .before .before .before in
     let x1 = x2 .before .before .before .before in
     let st = x1 .before .before .before in
-    let r1 = next 20 44 (x1 .put-decimal .ensures) (decimal-length (st .args .i)) (st .pre) in
+    let r1 = next 20 44 (x1 .put-decimal .ensures) (decimal-length (st .args .i)) (st .pre .1) in
     let r2 = next 1 43 (x2 .put-byte .ensures) (omega arith) r1 in
     let r3 = next 20 23 (x3 .put-decimal2 .ensures) (decimal-length (st .args .seq)) r2 in
     let r4 = next 1 22 (x4 .put-byte2 .ensures) (omega arith) r3 in
-    let r5 = next 21 1 (x5 .put-signed .ensures) (signed-length _) r4 in
+    let r5 = next 21 1 (x5 .put-third .ensures) (third-length (st .args .dates) _) r4 in
     omega (arith, r5)
 
 same-length : tie.Need-same-length
@@ -79,7 +80,7 @@ returns c =
     let x2 = x3 .before .before .before .before in
     let x1 = x2 .before .before .before .before in
     let st = x1 .before .before .before in
-    then (then (then (then (then (x1 .put-decimal .ensures) (x2 .put-byte .ensures)) (x3 .put-decimal2 .ensures)) (x4 .put-byte2 .ensures)) (rw (toZ-ofZ (st .fits .sec)) at (x5 .put-signed .ensures))) (x6 .put-byte3 .ensures)
+    then (then (then (then (then (x1 .put-decimal .ensures) (x2 .put-byte .ensures)) (x3 .put-decimal2 .ensures)) (x4 .put-byte2 .ensures)) (rw (toZ-ofZ (st .fits .sec)) at (x5 .put-third .ensures))) (x6 .put-byte3 .ensures)
 
 pub put-line-spec : {M : Type 1} → statement M
 put-line-spec =
@@ -89,7 +90,7 @@ put-line-spec =
     put-byte-requires
     put-decimal-requires-2
     put-byte-requires-2
-    put-signed-requires
+    put-third-requires
     put-byte-requires-3
     same-length
     returns)

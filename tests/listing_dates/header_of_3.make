@@ -1,0 +1,1 @@
+cat "$1/../listing/header_of_3.in"
