@@ -93,7 +93,7 @@ pub enum Error {
     Wide { array: Array, index: u64 },
     /// 21: the output is too short, and the bytes that it would have to have.
     Room { bytes: u64 },
-    /// 22: the input of the program `listing` is above 16,384 bytes. No call answers it.
+    /// 22: the input of the program `listing` or `listing_dates` is above 16,384 bytes. No call answers it.
     InputTooLong,
     /// 23: a bit width is above 64, or outside 1..32 in sign extension.
     Width,
