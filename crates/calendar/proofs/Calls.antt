@@ -1,12 +1,12 @@
 -- What the calls of the code come to, over plain numbers. Assumes nothing.
-use mathlib.Core.Path.{_≡_, refl, ap, _∙_, sym}
-use mathlib.Core.Bool.{Bool, true, false, cond, not, _&&_}
-use Prim.Native.Nat.{ℕ, zero, suc, _+_, _-_, _*_, _/_, _%_, _^_, _≤_, _<_}
+use mathlib.Core.Path.{_≡_, ap, _∙_, sym}
+use mathlib.Core.Bool.{Bool, true, false}
+use Prim.Native.Nat.{ℕ, _+_, _-_, _*_, _/_, _%_, _≤_, _<_}
 use native.Mathlib.Omega.{arith}
-use lib.ListN.{getD, take}
+use lib.ListN.{take}
 use Rattle.calendar.specs.declared.Date.{Date}
-use Rattle.calendar.specs.Calendar.{leap, daysOfYears, total, lengthsOf, momentOf, within, isDay, isTime, isDate}
-use Rattle.calendar.specs.Inner.{Part, part, dated, yearsBefore, dateOf, momentAt, Valid}
+use Rattle.calendar.specs.Calendar.{leap, daysOfYears, summed, lengthsOf, momentOf, within, isDay, isTime, isDate}
+use Rattle.calendar.specs.Inner.{Part, part, dated, yearsBefore, dateOf, Valid}
 use Rattle.calendar.proofs.Parts.{part-in, part-sum}
 use Rattle.calendar.proofs.YearDays.{year-from}
 use Rattle.calendar.proofs.Steps.{year-small}
@@ -22,7 +22,7 @@ module _ (n y : ℕ) (h : n < 315537897600) (e : y ≡ yearsBefore (n / 86400)) 
     pub y-from : r ≤ n / 86400
     y-from = omega (arith, ap daysOfYears e, year-from (n / 86400))
 
-    pub y-in : n / 86400 - r < total (lengthsOf l)
+    pub y-in : n / 86400 - r < summed (lengthsOf l)
     y-in = rw (le, re, e) (in-year (n / 86400))
 
     module _ (p : Part) (pe : p ≡ part (lengthsOf l) (n / 86400 - r)) where
@@ -40,7 +40,7 @@ module _ (n y : ℕ) (h : n < 315537897600) (e : y ≡ yearsBefore (n / 86400)) 
           rest = rw (le, re, e)
 
 -- ---- moment_of
-module _ (d : Date) (v : Valid d) (r s : ℕ) (l : Bool) (re : r ≡ daysOfYears (d .year - 1)) (le : l ≡ leap (d .year)) (se : s ≡ total (take (d .month - 1) (lengthsOf l))) where
+module _ (d : Date) (v : Valid d) (r s : ℕ) (l : Bool) (re : r ≡ daysOfYears (d .year - 1)) (le : l ≡ leap (d .year)) (se : s ≡ summed (take (d .month - 1) (lengthsOf l))) where
   pub m-is : (r + s + (d .day - 1)) * 86400 + d .hour * 3600 + d .minute * 60 + d .second ≡ momentOf d
   m-is = rw (se, le, re)
 

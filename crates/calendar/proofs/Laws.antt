@@ -1,13 +1,13 @@
 -- The laws of specs/Laws.antt. Assumes nothing.
-use mathlib.Core.Path.{_≡_, refl, ap, _∙_, sym}
-use mathlib.Core.Bool.{true, false}
+use mathlib.Core.Path.{_≡_, ap, _∙_, sym}
+use mathlib.Core.Bool.{false}
 use lib.IntN.{ℤ}
 use Rattle.limits.specs.Domain.{outside}
 use Rattle.calendar.specs.declared.Date.{Date}
-use Rattle.calendar.specs.Calendar.{daysOfYears, momentOf, secondOf, isDate}
+use Rattle.calendar.specs.Calendar.{momentOf, IsDateOf}
 use Rattle.calendar.specs.Inner.{dateOf, momentAt}
-use Rattle.calendar.specs.Laws.{IsDateOf, Calendar}
-use Rattle.calendar.proofs.YearDays.{year-length}
+use Rattle.calendar.specs.Laws.{Calendar}
+use Rattle.calendar.proofs.YearDays.{closed-form}
 use Rattle.calendar.proofs.Trip.{date-valid, moment-date, date-moment, moment-in}
 use Rattle.calendar.proofs.Moments.{secondAt, moment-below, second-moment, moment-second, second-in, valid-means, valid-true}
 use Rattle.calendar.proofs.Order.{seconds-order}
@@ -27,14 +27,9 @@ one-date z d e h k =
     sym (moment-second (momentOf d) (moment-in d v)) ∙ ap momentAt (h .1 ∙ sym (k .1)) ∙ moment-second (momentOf e) (moment-in e w) in
     sym (date-moment d v) ∙ ap dateOf m ∙ date-moment e w
 
-nothing-yet : daysOfYears 0 ≡ 0
-unfolding daysOfYears
-nothing-yet = refl
-
 pub calendar : Calendar
 calendar = record {
-  no-year = nothing-yet;
-  one-year-more = year-length;
+  closed-form = closed-form;
   a-date = λ z h. (dateOf (momentAt z), is-date-of z h);
   in-domain = λ d h. second-in (momentOf d) (moment-in d (valid-means d h));
   one-date = one-date;

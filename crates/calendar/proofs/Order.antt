@@ -2,15 +2,15 @@
 use mathlib.Core.Path.{_≡_, refl, ap, _∙_, sym}
 use mathlib.Core.Bool.{Bool, true, false, cond, _&&_, _||_}
 use mathlib.Core.List.{List, [], _∷_}
-use Prim.Native.Nat.{ℕ, zero, suc, _+_, _-_, _*_, _≤_, _<_}
+use Prim.Native.Nat.{ℕ, zero, suc, _+_, _-_, _≤_, _<_}
 use native.Mathlib.Omega.{arith}
-use borrow.Author.Tests.{lt-ltb, le-ltb, ltb-true, ltb-false, eq-eqb, ne-eqb, eqb-true, eqb-false}
+use borrow.Author.Tests.{lt-ltb, le-ltb, ltb-true, ltb-false, eqb-true, eqb-false}
 use lib.Dec.{ltb, eqb}
 use lib.ListN.{take, getD}
-use lib.IntN.{ℤ, pos, negsuc, subℕ}
+use lib.IntN.{pos, negsuc, subℕ}
 use lib.Signed.{ltZ}
 use Rattle.calendar.specs.declared.Date.{Date}
-use Rattle.calendar.specs.Calendar.{leap, lengthsOf, total, daysOfYears, daysBefore, momentOf, secondOf}
+use Rattle.calendar.specs.Calendar.{leap, lengthsOf, summed, daysOfYears, daysBefore, momentOf, secondOf}
 use Rattle.calendar.specs.Laws.{numbers, before}
 use Rattle.calendar.specs.Inner.{Valid}
 use Rattle.calendar.proofs.YearDays.{days-mono}
@@ -62,8 +62,8 @@ order-kept a b k = by-ltb (λ t. ltZ (cond t (negsuc (k - suc a)) (pos (a - k)))
 
 -- ---- one date before another
 -- a place in a part of a row is before each later part
-later : (ns : List ℕ) (i j r : ℕ) → i < j → r < getD ns i 0 → total (take i ns) + r < total (take j ns)
-unfolding total
+later : (ns : List ℕ) (i j r : ℕ) → i < j → r < getD ns i 0 → summed (take i ns) + r < summed (take j ns)
+unfolding summed
 later [] zero j r h k = absurd (omega arith)
 later [] (suc i) j r h k = absurd (omega arith)
 later (n ∷ ns) i zero r h k = absurd (omega arith)
@@ -78,8 +78,8 @@ module _ (d e : Date) (v : Valid d) (w : Valid e) where
     years : daysOfYears (d .year - 1) ≡ daysOfYears (e .year - 1)
     years = ap (λ (x : ℕ). daysOfYears (x - 1)) y
 
-    months : (m : ℕ) → total (take m (lengthsOf (leap (d .year)))) ≡ total (take m (lengthsOf (leap (e .year))))
-    months m = ap (λ (x : ℕ). total (take m (lengthsOf (leap x)))) y
+    months : (m : ℕ) → summed (take m (lengthsOf (leap (d .year)))) ≡ summed (take m (lengthsOf (leap (e .year))))
+    months m = ap (λ (x : ℕ). summed (take m (lengthsOf (leap x)))) y
 
     month-less : d .month < e .month → momentOf d < momentOf e
     month-less h =
@@ -92,8 +92,8 @@ module _ (d e : Date) (v : Valid d) (w : Valid e) where
         )
 
     module _ (m : d .month ≡ e .month) where
-      month : total (take (d .month - 1) (lengthsOf (leap (d .year)))) ≡ total (take (e .month - 1) (lengthsOf (leap (e .year))))
-      month = months (d .month - 1) ∙ ap (λ (x : ℕ). total (take (x - 1) (lengthsOf (leap (e .year))))) m
+      month : summed (take (d .month - 1) (lengthsOf (leap (d .year)))) ≡ summed (take (e .month - 1) (lengthsOf (leap (e .year))))
+      month = months (d .month - 1) ∙ ap (λ (x : ℕ). summed (take (x - 1) (lengthsOf (leap (e .year))))) m
 
       day-less : d .day < e .day → momentOf d < momentOf e
       day-less h = omega (arith, years, month, clock-in d v, v .from-1 .2)

@@ -1,6 +1,6 @@
 -- The steps of the code, over plain numbers. Assumes nothing.
 use mathlib.Core.Path.{_≡_, refl, ap, _∙_, sym}
-use mathlib.Core.Bool.{Bool, true, false, cond, not, _&&_, _||_}
+use mathlib.Core.Bool.{Bool, true, false}
 use mathlib.Core.List.{List, [], _∷_}
 use Prim.Native.Nat.{ℕ, zero, suc, _+_, _-_, _*_, _/_, _%_, _≤_, _<_}
 use native.Mathlib.Numerals.{add-one}
@@ -8,8 +8,8 @@ use native.Mathlib.Omega.{arith}
 use borrow.Author.Tests.{lt-ltb, le-ltb, ltb-true, ltb-false, eq-eqb, ne-eqb}
 use lib.Dec.{ltb, eqb}
 use lib.ListN.{take, getD, length}
-use Rattle.calendar.specs.Calendar.{leap, daysOfYears, monthLengths, lengthsOf, total}
-use Rattle.calendar.specs.Inner.{Part, part, yearsBefore}
+use Rattle.calendar.specs.Calendar.{leap, daysOfYears, monthLengths, lengthsOf, summed}
+use Rattle.calendar.specs.Inner.{part, yearsBefore}
 use Rattle.calendar.proofs.Parts.{part-at}
 use Rattle.calendar.proofs.Trip.{twelve}
 
@@ -41,32 +41,32 @@ pub common : (m : ℕ) → getD monthLengths m 0 ≡ getD (lengthsOf false) m 0
 unfolding lengthsOf
 common m = refl
 
-total-more : (ns : List ℕ) (i : ℕ) → i < length ns → total (take (suc i) ns) ≡ total (take i ns) + getD ns i 0
-unfolding total
+total-more : (ns : List ℕ) (i : ℕ) → i < length ns → summed (take (suc i) ns) ≡ summed (take i ns) + getD ns i 0
+unfolding summed
 total-more [] i h = absurd (omega arith)
 total-more (n ∷ ns) zero h = omega arith
 total-more (n ∷ ns) (suc i) h = omega (arith, total-more ns i (omega arith))
 
-total-all : (ns : List ℕ) (i : ℕ) → length ns ≤ i → total (take i ns) ≡ total ns
-unfolding total
+total-all : (ns : List ℕ) (i : ℕ) → length ns ≤ i → summed (take i ns) ≡ summed ns
+unfolding summed
 total-all [] zero h = refl
 total-all [] (suc i) h = refl
 total-all (n ∷ ns) zero h = absurd (omega arith)
 total-all (n ∷ ns) (suc i) h = ap (λ (x : ℕ). n + x) (total-all ns i (omega arith))
 
 -- one month on
-pub ahead-more : (l : Bool) (m : ℕ) → m < 12 → total (take (m + 1) (lengthsOf l)) ≡ total (take m (lengthsOf l)) + getD (lengthsOf l) m 0
+pub ahead-more : (l : Bool) (m : ℕ) → m < 12 → summed (take (m + 1) (lengthsOf l)) ≡ summed (take m (lengthsOf l)) + getD (lengthsOf l) m 0
 ahead-more l m h = rw add-one (total-more (lengthsOf l) m (omega (arith, twelve l)))
 
 -- a year's monthLengths are not used up before its days are
-pub not-yet : (l : Bool) (m d x : ℕ) → d < total (lengthsOf l) → d ≡ total (take m (lengthsOf l)) + x → m < 12
+pub not-yet : (l : Bool) (m d x : ℕ) → d < summed (lengthsOf l) → d ≡ summed (take m (lengthsOf l)) + x → m < 12
 not-yet l m d x h e = go (ltb m 12) refl
   where
     go : (b : Bool) → ltb m 12 ≡ b → m < 12
     go true t = ltb-true m 12 t
     go false t = absurd (omega (arith, total-all (lengthsOf l) m (omega (arith, twelve l, ltb-false m 12 t))))
 
-pub found : (l : Bool) (m d x : ℕ) → m < 12 → d ≡ total (take m (lengthsOf l)) + x → x < getD (lengthsOf l) m 0 → record { index = m; rest = x } ≡ part (lengthsOf l) d
+pub found : (l : Bool) (m d x : ℕ) → m < 12 → d ≡ summed (take m (lengthsOf l)) + x → x < getD (lengthsOf l) m 0 → record { index = m; rest = x } ≡ part (lengthsOf l) d
 found l m d x h e k = sym (ap (part (lengthsOf l)) e ∙ part-at (lengthsOf l) m x (omega (arith, twelve l)) k)
 
 -- ---- years
@@ -79,21 +79,21 @@ unfolding yearsBefore
 guess-low d h = rw (le-ltb d (daysOfYears (d * 400 / 146097 + 1)) h)
 
 -- ---- bounds
-total-le : (ns : List ℕ) (i : ℕ) → total (take i ns) ≤ total ns
-unfolding total
+total-le : (ns : List ℕ) (i : ℕ) → summed (take i ns) ≤ summed ns
+unfolding summed
 total-le [] zero = omega arith
 total-le [] (suc i) = omega arith
 total-le (n ∷ ns) zero = omega arith
 total-le (n ∷ ns) (suc i) = omega (arith, total-le ns i)
 
-pub year-small : (l : Bool) → total (lengthsOf l) ≤ 366
-unfolding lengthsOf total
+pub year-small : (l : Bool) → summed (lengthsOf l) ≤ 366
+unfolding lengthsOf summed
 year-small true = omega arith
 year-small false = omega arith
 
-pub ahead-small : (l : Bool) (m : ℕ) → total (take m (lengthsOf l)) ≤ 366
+pub ahead-small : (l : Bool) (m : ℕ) → summed (take m (lengthsOf l)) ≤ 366
 ahead-small l m = omega (arith, total-le (lengthsOf l) m, year-small l)
 
-pub none-ahead : (l : Bool) → total (take 0 (lengthsOf l)) ≡ 0
-unfolding total
+pub none-ahead : (l : Bool) → summed (take 0 (lengthsOf l)) ≡ 0
+unfolding summed
 none-ahead l = refl

@@ -1,17 +1,17 @@
 -- THE LAW: from a moment to its date and back, and from a date to its moment and back. Assumes nothing.
-use mathlib.Core.Path.{_≡_, refl, ap, _∙_, sym, subst}
-use mathlib.Core.Bool.{Bool, true, false, cond}
-use mathlib.Core.List.{List, [], _∷_}
-use Prim.Native.Nat.{ℕ, zero, suc, _+_, _-_, _*_, _/_, _%_, _≤_, _<_}
+use mathlib.Core.Path.{_≡_, refl, ap, _∙_}
+use mathlib.Core.Bool.{Bool, true, false}
+use mathlib.Core.List.{List}
+use Prim.Native.Nat.{ℕ, _+_, _-_, _*_, _/_, _%_, _≤_, _<_}
 use native.Mathlib.Omega.{arith}
 use borrow.Author.Tests.{ltb-true, ltb-false}
 use lib.Dec.{ltb}
 use lib.ListN.{take, getD, length}
 use Rattle.calendar.specs.declared.Date.{Date}
-use Rattle.calendar.specs.Calendar.{leap, daysOfYears, monthLengths, lengthsOf, total, daysBefore, momentOf}
+use Rattle.calendar.specs.Calendar.{leap, daysOfYears, lengthsOf, summed, daysBefore, momentOf}
 use Rattle.calendar.specs.Inner.{Valid, Part, part, yearsBefore, dated, dateAt, dateOf}
 use Rattle.calendar.proofs.Parts.{part-sum, part-in, part-at, part-below}
-use Rattle.calendar.proofs.YearDays.{year-length, days-mono, year-from, year-to, year-is}
+use Rattle.calendar.proofs.YearDays.{closed-form, year-length, days-mono, year-from, year-to, year-is}
 
 pub twelve : (l : Bool) → length (lengthsOf l) ≡ 12
 unfolding lengthsOf
@@ -19,8 +19,7 @@ twelve true = refl
 twelve false = refl
 
 all-days : daysOfYears 9999 ≡ 3652059
-unfolding daysOfYears
-all-days = refl
+all-days = closed-form 9999
 
 less-one : (n : ℕ) → n + 1 - 1 ≡ n
 less-one n = omega arith
@@ -29,20 +28,20 @@ less-one n = omega arith
 abbrev lens : ℕ → List ℕ
 lens y = lengthsOf (leap (y + 1))
 
-moment-dated : (y s : ℕ) (p : Part) → momentOf (dated y s p) ≡ (daysOfYears y + total (take (p .index) (lens y)) + p .rest) * 86400 + s
-moment-dated y s p = rw (less-one y, less-one (p .index)) (clock (daysOfYears y + total (take (p .index) (lens y))) (p .rest) s)
+moment-dated : (y s : ℕ) (p : Part) → momentOf (dated y s p) ≡ (daysOfYears y + summed (take (p .index) (lens y)) + p .rest) * 86400 + s
+moment-dated y s p = rw (less-one y, less-one (p .index)) (clock (daysOfYears y + summed (take (p .index) (lens y))) (p .rest) s)
   where
     clock : (d r s : ℕ) → (d + (r + 1 - 1)) * 86400 + s / 3600 * 3600 + s / 60 % 60 * 60 + s % 60 ≡ (d + r) * 86400 + s
     clock d r s = omega arith
 
 module _ (d : ℕ) where
-  pub in-year : d - daysOfYears (yearsBefore d) < total (lens (yearsBefore d))
+  pub in-year : d - daysOfYears (yearsBefore d) < summed (lens (yearsBefore d))
   in-year = omega (arith, year-from d, year-to d, year-length (yearsBefore d))
 
   place : Part
   place = part (lens (yearsBefore d)) (d - daysOfYears (yearsBefore d))
 
-  place-sum : daysOfYears (yearsBefore d) + total (take (place .index) (lens (yearsBefore d))) + place .rest ≡ d
+  place-sum : daysOfYears (yearsBefore d) + summed (take (place .index) (lens (yearsBefore d))) + place .rest ≡ d
   unfolding place
   place-sum = omega (arith, part-sum (lens (yearsBefore d)) (d - daysOfYears (yearsBefore d)), year-from d)
 
@@ -85,7 +84,7 @@ module _ (d : Date) (v : Valid d) where
   clock = d .hour * 3600 + d .minute * 60 + d .second
 
   abbrev ahead : ℕ
-  ahead = total (take (d .month - 1) (lengthsOf (leap (d .year))))
+  ahead = summed (take (d .month - 1) (lengthsOf (leap (d .year))))
 
   pub clock-in : clock < 86400
   clock-in = omega (arith, v .time .0, v .time .1, v .time .2)
@@ -99,8 +98,8 @@ module _ (d : Date) (v : Valid d) where
   year-back : d .year - 1 + 1 ≡ d .year
   year-back = omega (arith, v .from-1 .0)
 
-  year-end : daysOfYears (d .year - 1 + 1) ≡ daysOfYears (d .year - 1) + total (lengthsOf (leap (d .year)))
-  year-end = year-length (d .year - 1) ∙ ap (λ (y : ℕ). daysOfYears (d .year - 1) + total (lengthsOf (leap y))) year-back
+  year-end : daysOfYears (d .year - 1 + 1) ≡ daysOfYears (d .year - 1) + summed (lengthsOf (leap (d .year)))
+  year-end = year-length (d .year - 1) ∙ ap (λ (y : ℕ). daysOfYears (d .year - 1) + summed (lengthsOf (leap y))) year-back
 
   year-found : yearsBefore (daysBefore d) ≡ d .year - 1
   year-found =

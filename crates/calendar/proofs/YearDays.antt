@@ -1,13 +1,11 @@
 -- Years and their days. Assumes nothing.
 use mathlib.Core.Path.{_≡_, refl, ap, _∙_, sym}
 use mathlib.Core.Bool.{Bool, true, false, cond, not, _&&_, _||_}
-use mathlib.Core.Logic.{_⊎_, inl, inr, ⊎-elim}
 use Prim.Native.Nat.{ℕ, zero, suc, _+_, _-_, _*_, _/_, _%_, _≤_, _<_}
-use native.Mathlib.Nat.{eq-or-lt-of-le}
 use native.Mathlib.Omega.{arith}
-use borrow.Author.Tests.{lt-ltb, le-ltb, ltb-true, ltb-false, eqb-true, eqb-false}
+use borrow.Author.Tests.{ltb-true, ltb-false, eqb-true, eqb-false}
 use lib.Dec.{ltb, eqb}
-use Rattle.calendar.specs.Calendar.{leap, daysOfYears, lengthsOf, total}
+use Rattle.calendar.specs.Calendar.{leap, daysOfYears, lengthsOf, summed}
 use Rattle.calendar.specs.Inner.{yearsBefore}
 
 -- a quotient as its dividend grows by one
@@ -35,12 +33,15 @@ grown k a b c p q r n h e f g u v = omega arith
 under : (k : ℕ) → k / 100 ≤ k
 under k = omega arith
 
--- a year has the days of its monthLengths
-pub year-length : (k : ℕ) → daysOfYears (k + 1) ≡ daysOfYears k + total (lengthsOf (leap (k + 1)))
-unfolding daysOfYears leap lengthsOf total
-year-length k = go (eqb ((k + 1) % 4) 0) (eqb ((k + 1) % 100) 0) (eqb ((k + 1) % 400) 0) refl refl refl
+-- the days of the years in closed form, as the code has them
+abbrev pub closed : ℕ → ℕ
+closed k = 365 * k + k / 4 - k / 100 + k / 400
+
+closed-next : (k : ℕ) → closed (k + 1) ≡ closed k + summed (lengthsOf (leap (k + 1)))
+unfolding leap lengthsOf summed
+closed-next k = go (eqb ((k + 1) % 4) 0) (eqb ((k + 1) % 100) 0) (eqb ((k + 1) % 400) 0) refl refl refl
   where
-    go : (a b c : Bool) → eqb ((k + 1) % 4) 0 ≡ a → eqb ((k + 1) % 100) 0 ≡ b → eqb ((k + 1) % 400) 0 ≡ c → daysOfYears (k + 1) ≡ daysOfYears k + total (lengthsOf (a && (not b || c)))
+    go : (a b c : Bool) → eqb ((k + 1) % 4) 0 ≡ a → eqb ((k + 1) % 100) 0 ≡ b → eqb ((k + 1) % 400) 0 ≡ c → closed (k + 1) ≡ closed k + summed (lengthsOf (a && (not b || c)))
     go true true true p q r =
         grown k (k / 4) (k / 100) (k / 400) 1 1 1 366 (under k) (up4 k (eqb-true _ _ p)) (up100 k (eqb-true _ _ q)) (up400 k (eqb-true _ _ r)) (omega arith) refl
     go true true false p q r =
@@ -52,6 +53,18 @@ year-length k = go (eqb ((k + 1) % 4) 0) (eqb ((k + 1) % 100) 0) (eqb ((k + 1) %
     go false false true p q r = absurd (eqb-false ((k + 1) % 100) 0 q (omega (arith, eqb-true ((k + 1) % 400) 0 r)))
     go false false false p q r =
         grown k (k / 4) (k / 100) (k / 400) 0 0 0 365 (under k) (at4 k (eqb-false _ _ p)) (at100 k (eqb-false _ _ q)) (at400 k (eqb-false _ _ r)) (omega arith) refl
+
+one-more : (k : ℕ) → k + 1 ≡ suc k
+one-more k = omega arith
+
+pub closed-form : (k : ℕ) → daysOfYears k ≡ closed k
+unfolding daysOfYears
+closed-form zero = refl
+closed-form (suc k) = ap (λ (n : ℕ). n + summed (lengthsOf (leap (suc k)))) (closed-form k) ∙ sym (rw (one-more k) at (closed-next k))
+
+-- a year has the days of its months
+pub year-length : (k : ℕ) → daysOfYears (k + 1) ≡ daysOfYears k + summed (lengthsOf (leap (k + 1)))
+year-length k = rw (closed-form (k + 1), closed-form k) (closed-next k)
 
 -- later years start later
 mono4 : (j k : ℕ) → j ≤ k → j / 4 ≤ k / 4
@@ -67,17 +80,14 @@ risen : (j k a b c a' b' c' : ℕ) → j ≤ k → b ≤ j → a ≤ a' → b' �
 risen j k a b c a' b' c' h i e f g = omega arith
 
 pub days-mono : (j k : ℕ) → j ≤ k → daysOfYears j ≤ daysOfYears k
-unfolding daysOfYears
-days-mono j k h = risen j k (j / 4) (j / 100) (j / 400) (k / 4) (k / 100) (k / 400) h (under j) (mono4 j k h) (slow100 j k h) (mono400 j k h)
+days-mono j k h = rw (closed-form j, closed-form k) (risen j k (j / 4) (j / 100) (j / 400) (k / 4) (k / 100) (k / 400) h (under j) (mono4 j k h) (slow100 j k h) (mono400 j k h))
 
 -- the guess is not too high, and at most one too low
 low : (d : ℕ) → daysOfYears (d * 400 / 146097) ≤ d
-unfolding daysOfYears
-low d = omega arith
+low d = omega (arith, closed-form (d * 400 / 146097))
 
 high : (d : ℕ) → d < daysOfYears (d * 400 / 146097 + 2)
-unfolding daysOfYears
-high d = omega arith
+high d = omega (arith, closed-form (d * 400 / 146097 + 2))
 
 -- the year found holds the day
 pub year-from : (d : ℕ) → daysOfYears (yearsBefore d) ≤ d

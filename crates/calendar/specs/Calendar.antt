@@ -1,6 +1,7 @@
--- The Gregorian calendar in UTC, years 0001 to 9999 (docs/RULES.md, "Dates"): which dates there are, and the second of each.
-use Prim.Native.Nat.{ℕ, _+_, _-_, _*_, _/_, _%_}
-use mathlib.Core.Bool.{Bool, cond, not, _&&_, _||_}
+-- The Gregorian calendar, years 0001 to 9999 (docs/RULES.md, "Dates"): which dates there are, and the second of each.
+use Prim.Native.Nat.{ℕ, zero, suc, _+_, _-_, _*_, _%_}
+use mathlib.Core.Path.{_≡_}
+use mathlib.Core.Bool.{Bool, true, cond, not, _&&_, _||_}
 use mathlib.Core.List.{List, [], _∷_}
 use lib.Dec.{ltb, leb, eqb}
 use lib.ListN.{take, getD, set}
@@ -19,17 +20,18 @@ monthLengths = 31 ∷ 28 ∷ 31 ∷ 30 ∷ 31 ∷ 30 ∷ 31 ∷ 31 ∷ 30 ∷ 31
 unfoldable pub lengthsOf : Bool → List ℕ
 lengthsOf isLeap = cond isLeap (set monthLengths 1 29) monthLengths
 
-unfoldable pub total : List ℕ → ℕ
-total [] = 0
-total (n ∷ ns) = n + total ns
+unfoldable pub summed : List ℕ → ℕ
+summed [] = 0
+summed (n ∷ ns) = n + summed ns
 
--- the days of the years 1 to k: 365 for each, and one for each that is leap
+-- the days of the years 1 to k: those of their months, year by year
 unfoldable pub daysOfYears : ℕ → ℕ
-daysOfYears k = 365 * k + k / 4 - k / 100 + k / 400
+daysOfYears zero = 0
+daysOfYears (suc k) = daysOfYears k + summed (lengthsOf (leap (suc k)))
 
 -- the days of the years before, of the months before, and of this month before
 abbrev pub daysBefore : Date → ℕ
-daysBefore d = daysOfYears (d .year - 1) + total (take (d .month - 1) (lengthsOf (leap (d .year)))) + (d .day - 1)
+daysBefore d = daysOfYears (d .year - 1) + summed (take (d .month - 1) (lengthsOf (leap (d .year)))) + (d .day - 1)
 
 -- the seconds from 0001-01-01T00:00:00Z on
 abbrev pub momentOf : Date → ℕ
@@ -53,3 +55,7 @@ isTime hour minute second = ltb hour 24 && (ltb minute 60 && ltb second 60)
 -- the calendar has this date and time of day
 unfoldable pub isDate : Date → Bool
 isDate d = within 1 9999 (d .year) && (within 1 12 (d .month) && (isDay (d .year) (d .month) (d .day) && isTime (d .hour) (d .minute) (d .second)))
+
+-- d is a date of the calendar, and z its second
+abbrev pub IsDateOf : ℤ → Date → Type 0
+IsDateOf z d = (isDate d ≡ true) × (secondOf d ≡ z)

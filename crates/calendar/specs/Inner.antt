@@ -1,5 +1,5 @@
 -- What our own functions promise each other. No public statement cites this file: the date of a second is that whose second it is
--- (specs/Laws.antt: `IsDateOf`), and how it is found is told here.
+-- (specs/Calendar.antt: `IsDateOf`), and how it is found is told here.
 use Prim.Native.Nat.{ℕ, suc, _+_, _-_, _*_, _/_, _%_, _≤_, _<_}
 use mathlib.Core.Bool.{cond}
 use mathlib.Core.List.{List, [], _∷_}

@@ -1,5 +1,5 @@
 -- What holds of the calendar. Proved in proofs/Laws.antt.
-use Prim.Native.Nat.{ℕ, _+_}
+use Prim.Native.Nat.{ℕ, _+_, _-_, _*_, _/_}
 use mathlib.Core.Path.{_≡_}
 use mathlib.Core.Bool.{Bool, true, false, _||_, _&&_}
 use mathlib.Core.List.{List, [], _∷_}
@@ -8,11 +8,7 @@ use lib.IntN.{ℤ}
 use lib.Signed.{ltZ}
 use Rattle.limits.specs.Domain.{outside}
 use Rattle.calendar.specs.declared.Date.{Date}
-use Rattle.calendar.specs.Calendar.{leap, lengthsOf, total, daysOfYears, secondOf, isDate}
-
--- d is a date of the calendar, and z its second
-abbrev pub IsDateOf : ℤ → Date → Type 0
-IsDateOf z d = (isDate d ≡ true) × (secondOf d ≡ z)
+use Rattle.calendar.specs.Calendar.{daysOfYears, secondOf, isDate, IsDateOf}
 
 -- the numbers of a date, the year first
 abbrev pub numbers : Date → List ℕ
@@ -26,9 +22,8 @@ before (x ∷ xs) [] = false
 before (x ∷ xs) (y ∷ ys) = ltb x y || eqb x y && before xs ys
 
 pub record Calendar : Type 0 where
-  -- the days of the years are those of their months, year by year
-  pub no-year : daysOfYears 0 ≡ 0
-  pub one-year-more : (k : ℕ) → daysOfYears (k + 1) ≡ daysOfYears k + total (lengthsOf (leap (k + 1)))
+  -- the days of the years are 365 for each, and one for each that is leap
+  pub closed-form : (k : ℕ) → daysOfYears k ≡ 365 * k + k / 4 - k / 100 + k / 400
   -- each second of the domain is that of a date, each date's second is in the domain, and no two dates have one second
   pub a-date : (z : ℤ) → outside z ≡ false → (d : Date) × IsDateOf z d
   pub in-domain : (d : Date) → isDate d ≡ true → outside (secondOf d) ≡ false

@@ -1,4 +1,4 @@
-// The Gregorian calendar in UTC, years 0001 to 9999 (docs/RULES.md, "Dates"): a date's second, and a second's date. For our own
+// The Gregorian calendar, years 0001 to 9999 (docs/RULES.md, "Dates"): a date's second, and a second's date. For our own
 // crates: no public call stands here.
 pub mod inner; // inner.rt: what our own crates call
 mod months; // months.rt: months and their days

@@ -2,7 +2,7 @@
 ghost use mathlib.Core.Path.{_≡_};
 ghost use Prim.Native.Nat.{_<_};
 ghost use lib.ListN.{getD, take};
-ghost use Rattle.calendar.specs.Calendar.{lengthsOf, total};
+ghost use Rattle.calendar.specs.Calendar.{lengthsOf, summed};
 ghost use Rattle.calendar.specs.Inner.{part};
 
 // The lengths of the months of a common year.
@@ -28,7 +28,7 @@ pub fn month_length(leap: bool, m: usize) -> u64
 // The days before month m.
 pub fn days_before_month(leap: bool, m: usize) -> u64
     requires { ⌜ m < 12 ⌝ }
-    ensures { λ r. ⌜ r ≡ total (take m (lengthsOf leap)) ⌝ }
+    ensures { λ r. ⌜ r ≡ summed (take m (lengthsOf leap)) ⌝ }
 {
     let mut n: u64 = 0;
     let mut i: usize = 0;
@@ -41,7 +41,7 @@ pub fn days_before_month(leap: bool, m: usize) -> u64
 
 // The month, and the day of it, that day d of a year is.
 pub fn place_in(leap: bool, d: u64) -> Place
-    requires { ⌜ d < total (lengthsOf leap) ⌝ }
+    requires { ⌜ d < summed (lengthsOf leap) ⌝ }
     ensures { λ r. ⌜ record { index = r .month; rest = r .day } ≡ part (lengthsOf leap) d ⌝ }
 {
     let mut m: usize = 0;

@@ -1,6 +1,6 @@
 -- Digits and bytes at places of the text: what the definition's readers say for what was found there. Assumes nothing.
 use mathlib.Core.Path.{_≡_, refl, ap, _∙_, sym, subst}
-use mathlib.Core.Bool.{Bool, true, false, cond, _&&_, _||_}
+use mathlib.Core.Bool.{Bool, true, false}
 use mathlib.Core.List.{List, [], _∷_}
 use mathlib.Core.Logic.{_⊎_, inl, inr}
 use Prim.Native.Nat.{ℕ, zero, suc, _+_, _-_, _*_, _^_, _≤_, _<_}
@@ -8,11 +8,11 @@ use native.Mathlib.Nat.{pow-suc, pow-le-pow-right}
 use native.Mathlib.Numerals.{add-one}
 use native.Mathlib.Omega.{arith}
 use borrow.Author.Tests.{le-leb, lt-leb, eq-eqb, ne-eqb}
-use lib.Dec.{T, eqb, leb}
+use lib.Dec.{T, eqb}
 use lib.ListN.{length, drop, getD}
 use lib.Seq.{drop-cons}
-use Rattle.gorilla.specs.Parser.{Read, read, refused, Reader, andThen}
-use Rattle.date_reader.specs.Grammar.{bad, isDigit, digits, number, either}
+use Rattle.gorilla.specs.Parser.{Read, read, Reader, andThen}
+use Rattle.date_reader.specs.Grammar.{bad, isDigit, moreDigits, number, either}
 use Rattle.date_reader.specs.Inner.{Has, Lacks, oneOf, DigitAt, ByteAt, NumberAt, GroupAt}
 
 -- ---- one reader after another
@@ -69,14 +69,14 @@ module _ (s : List ℕ) (at : ℕ) where
     missing = λ m. absurd (omega arith);
   }
 
-pub digits-there : (l rest : List ℕ) (d k n : ℕ) → d ≤ 9 → l ≡ (48 + d) ∷ rest → digits (suc k) n l ≡ digits k (n * 10 + d) rest
-unfolding digits
+pub digits-there : (l rest : List ℕ) (d k n : ℕ) → d ≤ 9 → l ≡ (48 + d) ∷ rest → moreDigits (suc k) n l ≡ moreDigits k (n * 10 + d) rest
+unfolding moreDigits
 digits-there l rest d k n h e =
     let f : 48 + d - 48 ≡ d = omega arith in
-    rw e (rw (is-digit (48 + d) (omega arith) (omega arith)) (ap (λ (x : ℕ). digits k (n * 10 + x) rest) f))
+    rw e (rw (is-digit (48 + d) (omega arith) (omega arith)) (ap (λ (x : ℕ). moreDigits k (n * 10 + x) rest) f))
 
-pub digits-lacks : (l : List ℕ) (k n : ℕ) → Lacks isDigit l → digits (suc k) n l ≡ bad
-unfolding digits
+pub digits-lacks : (l : List ℕ) (k n : ℕ) → Lacks isDigit l → moreDigits (suc k) n l ≡ bad
+unfolding moreDigits
 digits-lacks [] k n h = refl
 digits-lacks (x ∷ l) k n h = rw h
 
@@ -85,7 +85,7 @@ pub record Partly (s : List ℕ) (at k v i : ℕ) : Type 0 where
   pub most : i ≤ k
   pub inside : at + i ≤ length s
   pub small : v < 10 ^ i
-  pub rest : number k (drop at s) ≡ digits (k - i) v (drop (at + i) s)
+  pub rest : number k (drop at s) ≡ moreDigits (k - i) v (drop (at + i) s)
 
 module _ (s : List ℕ) (at k : ℕ) where
   pub partly-none : at ≤ length s → Partly s at k 0 0
@@ -97,8 +97,8 @@ module _ (s : List ℕ) (at k : ℕ) where
   }
 
   module _ (v i d : ℕ) (p : Partly s at k v i) (h : i < k) (a : DigitAt s (at + i) d) where
-    turn : number k (drop at s) ≡ digits (suc (k - (i + 1))) v (drop (at + i) s)
-    turn = let e : k - i ≡ suc (k - (i + 1)) = omega arith in p .rest ∙ ap (λ (j : ℕ). digits j v (drop (at + i) s)) e
+    turn : number k (drop at s) ≡ moreDigits (suc (k - (i + 1))) v (drop (at + i) s)
+    turn = let e : k - i ≡ suc (k - (i + 1)) = omega arith in p .rest ∙ ap (λ (j : ℕ). moreDigits j v (drop (at + i) s)) e
 
     pub partly-more : d ≤ 9 → Partly s at k (v * 10 + d) (i + 1)
     partly-more l = record {
@@ -108,7 +108,7 @@ module _ (s : List ℕ) (at k : ℕ) where
       rest =
           let e : at + (i + 1) ≡ at + i + 1 = omega arith in
           turn ∙ digits-there (drop (at + i) s) (drop (at + i + 1) s) d (k - (i + 1)) v l (a .there l)
-          ∙ ap (λ (j : ℕ). digits (k - (i + 1)) (v * 10 + d) (drop j s)) (sym e);
+          ∙ ap (λ (j : ℕ). moreDigits (k - (i + 1)) (v * 10 + d) (drop j s)) (sym e);
     }
 
     pub partly-missing : 9 < d → NumberAt s at k 10000
@@ -122,13 +122,13 @@ module _ (s : List ℕ) (at k : ℕ) where
   partly-low v i p h = omega (arith, p .small, pow-le-pow-right {n = 10} (omega arith) {i = i} {j = 4} (omega (arith, p .most)))
 
   pub partly-all : (v i : ℕ) → Partly s at k v i → k ≤ 4 → k ≤ i → NumberAt s at k v
-  unfolding digits
+  unfolding moreDigits
   partly-all v i p h l =
       let e : i ≡ k = omega (arith, p .most) in
       let z : k - k ≡ 0 = omega arith in
       record {
         inside = λ m. omega (arith, p .inside);
-        there = λ m. rw e at (p .rest) ∙ ap (λ (j : ℕ). digits j v (drop (at + k) s)) z;
+        there = λ m. rw e at (p .rest) ∙ ap (λ (j : ℕ). moreDigits j v (drop (at + k) s)) z;
         missing = λ m. absurd (omega (arith, partly-low v i p h));
       }
 

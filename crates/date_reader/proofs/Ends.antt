@@ -1,10 +1,10 @@
 -- A date-time that is read is the whole text. Assumes nothing.
-use mathlib.Core.Path.{_≡_, sym, ap}
+use mathlib.Core.Path.{_≡_, sym}
 use mathlib.Core.List.{List, [], _∷_}
 use Prim.Native.Nat.{ℕ}
 use native.Mathlib.Omega.{arith}
 use Rattle.gorilla.specs.Parser.{Read, read, refused, Reader, andThen, give}
-use Rattle.date_reader.specs.Grammar.{bad, number, either, byte, fraction, offset, end, Stamp, dateTime}
+use Rattle.date_reader.specs.Grammar.{number, either, byte, fraction, offset, end, dateTime}
 
 pub read-not-refused : {A X : Type 0} {a : A} {s l : List ℕ} → refused l ≡ read a s → X
 read-not-refused h = let z : _≡_ {A = ℕ} 0 1 = cc in absurd (omega arith)

@@ -1,8 +1,8 @@
 -- The parts of a date-time at places of the text. Assumes nothing.
 use mathlib.Core.Path.{_≡_, refl, ap, _∙_, sym, subst}
-use mathlib.Core.Bool.{Bool, true, false, cond, _||_}
+use mathlib.Core.Bool.{Bool, true, false, _||_}
 use mathlib.Core.List.{List, [], _∷_}
-use Prim.Native.Nat.{ℕ, zero, suc, _+_, _-_, _*_, _≤_, _<_}
+use Prim.Native.Nat.{ℕ, suc, _+_, _-_, _*_, _≤_, _<_}
 use native.Mathlib.Omega.{arith}
 use lib.Dec.{eqb}
 use lib.ListN.{length, drop, drop-of-length-le}
@@ -10,13 +10,12 @@ use lib.Seq.{drop-cons}
 use Rattle.gorilla.specs.Parser.{Read, read, andThen}
 use Rattle.calendar.specs.declared.Date.{Date}
 use Rattle.date_reader.specs.declared.Zone.{Zone}
-use Rattle.date_reader.specs.declared.StampRead.{StampRead}
 use Rattle.date_reader.specs.declared.StampRead.the-variants as stamp
 use Rattle.date_reader.specs.declared.steps.HeadRead.{HeadRead}
 use Rattle.date_reader.specs.declared.steps.HeadRead.the-variants as head
 use Rattle.date_reader.specs.declared.steps.ZoneRead.{ZoneRead}
 use Rattle.date_reader.specs.declared.steps.ZoneRead.the-variants as zone
-use Rattle.date_reader.specs.Grammar.{bad, isDigit, digits, number, either, upTo, oneToNine, fraction, numOffset, offset, end, Stamp, dateTime}
+use Rattle.date_reader.specs.Grammar.{bad, isDigit, moreDigits, number, upTo, oneToNine, fraction, numOffset, offset, end, dateTime}
 use Rattle.date_reader.specs.Inner.{Has, Lacks, oneOf, DigitAt, ByteAt, NumberAt, GroupAt, ended, afterHead, HeadAt, MoreAt, FractionAt, zoned, OffsetAt, ZoneAt, toldStamp}
 use Rattle.date_reader.proofs.At.{then-read, then-bad, is-digit, digits-there, digits-lacks, group-read, group-bad}
 
@@ -125,7 +124,7 @@ module _ (s : List ℕ) where
     }
 
     one-digit : d ≤ 9 → number 1 (drop 20 s) ≡ read d (drop 21 s)
-    unfolding digits
+    unfolding moreDigits
     one-digit m =
         let e : 0 * 10 + d ≡ d = omega arith in
         digits-there (drop 20 s) (drop 21 s) d 0 0 m (a .there m) ∙ ap (λ (x : ℕ). read x (drop 21 s)) e

@@ -2,7 +2,7 @@
 use Prim.Native.Nat.{ℕ, zero, suc, _+_, _-_, _*_}
 use Prim.Native.Char.{code}
 use mathlib.Core.Bool.{Bool, true, false, cond, _&&_, _||_}
-use mathlib.Core.List.{List, [], _∷_}
+use mathlib.Core.List.{[], _∷_}
 use lib.Dec.{leb, eqb}
 use Rattle.gorilla.specs.Parser.{Read, read, refused, Reader, _>>=_, _>>_, give}
 use Rattle.calendar.specs.declared.Date.{Date}
@@ -15,14 +15,14 @@ unfoldable pub isDigit : ℕ → Bool
 isDigit x = leb (code "0") x && leb x (code "9")
 
 -- k digits, which follow those of the number n
-unfoldable pub digits : ℕ → ℕ → Reader ℕ
-digits zero n s = read n s
-digits (suc k) n [] = bad
-digits (suc k) n (x ∷ s) = cond (isDigit x) (digits k (n * 10 + (x - code "0")) s) bad
+unfoldable pub moreDigits : ℕ → ℕ → Reader ℕ
+moreDigits zero n s = read n s
+moreDigits (suc k) n [] = bad
+moreDigits (suc k) n (x ∷ s) = cond (isDigit x) (moreDigits k (n * 10 + (x - code "0")) s) bad
 
 -- 4DIGIT, 2DIGIT
 abbrev pub number : ℕ → Reader ℕ
-number k = digits k 0
+number k = moreDigits k 0
 
 -- one of two bytes, which are a letter in either case
 unfoldable pub either : ℕ → ℕ → Reader (Unit {0})

@@ -3,7 +3,7 @@ ghost use mathlib.Core.Path.{_≡_};
 ghost use Prim.Native.Nat.{_≤_};
 ghost use lib.ListN.{length, drop};
 ghost use Rattle.date_reader.specs.Grammar.{dateTime};
-ghost use Rattle.date_reader.specs.Inner.{HeadAt, afterHead, toldStamp};
+ghost use Rattle.date_reader.specs.Inner.{afterHead, toldStamp};
 use crate::StampRead;
 use crate::steps::HeadRead;
 use crate::steps::ZoneRead;

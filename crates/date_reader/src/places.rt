@@ -1,14 +1,8 @@
 // Digits and bytes at a place of the text. What is not there is told by a number that no digits make.
-ghost use mathlib.Core.Path.{_≡_};
 ghost use Prim.Native.Nat.{_≤_};
 ghost use lib.ListN.{length};
 ghost use Rattle.date_reader.specs.Inner.{DigitAt, ByteAt, NumberAt, GroupAt};
-
-fn wide(x: u8) -> u64
-    ensures { λ r. ⌜ r ≡ x ⌝ }
-{
-    x as u64
-}
+use raw_bits::inner::wide;
 
 // The digit at a place; 10 where there is none.
 pub fn digit_at(s: &[u8], at: usize) -> u64

@@ -2,23 +2,21 @@
 use mathlib.Core.Path.{_≡_, refl, ap, _∙_, sym}
 use mathlib.Core.Bool.{Bool, true, false, _&&_, _||_}
 use mathlib.Core.List.{List, [], _∷_, _++_}
-use Prim.Native.Nat.{ℕ, _+_, _/_, _%_, _≤_, _<_}
+use Prim.Native.Nat.{ℕ, _+_, _/_, _%_, _<_}
 use native.Mathlib.Omega.{arith}
 use borrow.Author.Tests.{lt-ltb, le-ltb, eq-eqb, ne-eqb}
 use lib.Dec.{ltb, eqb}
-use lib.IntN.{ℤ}
-use lib.ListN.{length}
+use lib.IntN.{ℤ, pos}
+use lib.ListN.{length, getD}
 use lib.Signed.{ltZ}
 use Rattle.limits.specs.Domain.{outside}
 use Rattle.calendar.specs.declared.Date.{Date}
-use Rattle.calendar.specs.Inner.{Valid, dateOf, momentAt}
+use Rattle.calendar.specs.Inner.{dateOf, momentAt}
 use Rattle.calendar.specs.Laws.{numbers, before}
-use Rattle.calendar.proofs.Moments.{valid-means}
 use Rattle.calendar.proofs.Order.{by-first}
 use Rattle.calendar.proofs.Laws.{is-date-of, one-date, calendar}
-use Rattle.date_writer.specs.DateText.{two, four, textOf, Dated}
+use Rattle.date_writer.specs.DateText.{two, four, textOf, Dated, AllDated}
 use Rattle.date_writer.specs.Inner.{dateText}
-use Rattle.date_writer.proofs.Digits.{valid-digits}
 
 pub text-length : (d : Date) → length (textOf d) ≡ 20
 unfolding textOf
@@ -29,6 +27,10 @@ dated-text z h = (dateOf (momentAt z), is-date-of z h, refl)
 
 pub one-text : (z : ℤ) (t u : List ℕ) → Dated z t → Dated z u → t ≡ u
 one-text z t u h k = h .2 ∙ ap textOf (one-date z (h .0) (k .0) (h .1) (k .1)) ∙ sym (k .2)
+
+-- two functions that make the texts of some seconds make the same of each
+pub same-texts : (f g : ℤ → List ℕ) (secs : List ℤ) → AllDated f secs → AllDated g secs → (i : ℕ) → i < length secs → f (getD secs i (pos 0)) ≡ g (getD secs i (pos 0))
+same-texts f g secs h k i l = one-text (getD secs i (pos 0)) (f (getD secs i (pos 0))) (g (getD secs i (pos 0))) (h i l) (k i l)
 
 pub dated-length : (z : ℤ) (t : List ℕ) → Dated z t → length t ≡ 20
 dated-length z t h = ap length (h .2) ∙ text-length (h .0)

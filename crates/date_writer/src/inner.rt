@@ -1,6 +1,6 @@
 // The text of a second, by value and put into a lent buffer.
 ghost use mathlib.Core.Path.{_≡_};
-ghost use mathlib.Core.Bool.{true, false};
+ghost use mathlib.Core.Bool.{false};
 ghost use Prim.Native.Nat.{_+_, _≤_};
 ghost use lib.ListN.{length};
 ghost use Rattle.limits.specs.Domain.{outside};
@@ -43,7 +43,7 @@ fn text_of(year: u64, month: u64, day: u64, hour: u64, minute: u64, second: u64)
 }
 
 // The text of a second of the domain.
-pub fn date_text(s: i64) -> [u8; DATE_BYTES]
+fn date_text(s: i64) -> [u8; DATE_BYTES]
     requires { ⌜ outside s ≡ false ⌝ }
     ensures { λ r. ⌜ r ≡ dateText s ⌝ }
 {

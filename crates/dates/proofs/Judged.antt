@@ -1,6 +1,6 @@
 -- What a date-time of the grammar says. Assumes nothing.
 use mathlib.Core.Path.{_≡_, refl, ap, _∙_, sym}
-use mathlib.Core.Bool.{Bool, true, false, cond, _&&_, true≢false}
+use mathlib.Core.Bool.{Bool, true, false, _&&_, true≢false}
 use mathlib.Core.List.{[], _∷_}
 use Prim.Native.Nat.{ℕ, zero, suc, _+_, _-_, _*_, _^_, _≤_, _<_}
 use native.Mathlib.Omega.{arith}
@@ -11,7 +11,7 @@ use lib.Signed.{mag}
 use mir.Syntax.{w64}
 use mir.Val.{SFits, toZ, ofZ}
 use mir.Facts.{toZ-ofZ, toZ-pos}
-use Rattle.told.specs.Told.{Told, gave, refused}
+use Rattle.told.specs.Told.{gave, refused}
 use Rattle.limits.specs.Domain.{outside}
 use Rattle.order.proofs.Domain.{inside-mag, mag-diff}
 use Rattle.calendar.specs.declared.Date.{Date}

@@ -1,6 +1,5 @@
 -- The laws of specs/Laws.antt. Assumes nothing.
 use mathlib.Core.Path.{_≡_, refl, ap, _∙_, sym, subst}
-use mathlib.Core.Logic.{_↔_}
 use mathlib.Core.Bool.{Bool, true, false, cond, _&&_}
 use mathlib.Core.List.{List, [], _∷_}
 use Prim.Native.Nat.{ℕ, suc, _-_}
@@ -9,7 +8,7 @@ use borrow.Author.Tests.{lt-ltb}
 use lib.Dec.{ltb}
 use lib.IntN.{ℤ, pos, negsuc, _-ℤ_}
 use lib.ListN.{length, take}
-use Rattle.told.specs.Told.{Told, gave, refused}
+use Rattle.told.specs.Told.{gave, refused}
 use Rattle.told.specs.Over.{over}
 use Rattle.told.specs.Room.{roomRule}
 use Rattle.told.proofs.Unique.{given-not-refused, same-gift}

@@ -1,5 +1,5 @@
 -- What a written date leaves. Assumes nothing.
-use mathlib.Core.Path.{_≡_, refl, ap, _∙_, sym, subst}
+use mathlib.Core.Path.{_≡_, refl, ap, _∙_, subst}
 use mathlib.Core.Bool.{true, false}
 use mathlib.Core.List.{List, [], _∷_, _++_}
 use Prim.Native.Nat.{ℕ, _+_, _≤_, _<_}
@@ -8,17 +8,14 @@ use lib.IntN.{ℤ}
 use lib.ListN.{length, drop}
 use lib.Seq.{sets-eq}
 use Rattle.told.specs.Told.{Told, gave, refused}
-use Rattle.told.specs.Over.{over}
 use Rattle.told.specs.Room.{roomRule}
 use Rattle.told.proofs.Room.{no-room, enough}
 use Rattle.limits.specs.Domain.{outside}
 use Rattle.text.specs.Inner.{Put}
-use Rattle.date_writer.specs.DateText.{Dated}
 use Rattle.date_writer.specs.Inner.{dateText}
 use Rattle.date_writer.proofs.Texts.{dated-text, dated-length}
 use Rattle.dates.specs.declared.Refusal.the-variants as refusal
 use Rattle.dates.specs.declared.DateWritten.the-variants as written
-use Rattle.dates.specs.Refusal.{toldWritten}
 use Rattle.dates.specs.Write.{writeDate, LeavesDate, WritesDate}
 
 module _ (z : ℤ) (out : List ℕ) where

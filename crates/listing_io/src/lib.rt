@@ -1,6 +1,5 @@
 // Standard input and output of the programs `listing` and `listing_dates`. No contract can say which bytes a call of C's reads or
 // writes. What can be said is said of the lent buffers.
-ghost use mathlib.Core.Path.{_≡_};
 ghost use Prim.Native.Nat.{_≤_};
 ghost use lib.ListN.{length, take};
 ghost use Rattle.report.specs.Dated.{DatedListing};

@@ -11,7 +11,7 @@ use Rattle.gorilla.specs.Parser.{Read, read, refused}
 use Rattle.gorilla.specs.Reading.{Pairs}
 use Rattle.text.specs.Ascii.{ascii}
 use Rattle.text.specs.Text.{wordLine, Stands}
-use Rattle.date_writer.proofs.Texts.{one-text}
+use Rattle.date_writer.proofs.Texts.{same-texts}
 use Rattle.report.specs.Lines.{line, lines, entriesText, refusedText}
 use Rattle.report.specs.Listing.{tooLong, inputRead, listingOf}
 use Rattle.report.specs.Dated.{someOutside, DatedPairs, DatedText, DatedListing, ListsDates}
@@ -34,8 +34,7 @@ lines-same f g seqs secs (suc n) same = rw (lines-same f g seqs secs n (λ i l. 
 one-pairs : (p : Pairs) (t u : List ℕ) → DatedPairs p t → DatedPairs p u → t ≡ u
 unfolding entriesText
 one-pairs p t u h k =
-    let second : ℕ → ℤ = λ i. getD (p .secs) i (pos 0) in
-    let e = lines-same (h .0) (k .0) (p .seqs) (p .secs) (length (p .secs)) (λ i l. one-text (second i) (h .0 (second i)) (k .0 (second i)) (h .1 i l) (k .1 i l)) in
+    let e = lines-same (h .0) (k .0) (p .seqs) (p .secs) (length (p .secs)) (same-texts (h .0) (k .0) (p .secs) (h .1) (k .1)) in
     h .2 ∙ ap (λ (ls : List ℕ). wordLine (ascii "entries ") (length (p .secs)) ++ ls) e ∙ sym (k .2)
 
 -- no two texts fit one input

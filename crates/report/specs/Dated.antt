@@ -1,28 +1,24 @@
 -- What `listing_dates` prints for its input (docs/RULES.md, "The listing"): a relation of input and text, since the text of a second's date is told
 -- by one, `Dated`.
-use Prim.Native.Nat.{ℕ, _<_}
+use Prim.Native.Nat.{ℕ}
 use mathlib.Core.Path.{_≡_}
 use mathlib.Core.Bool.{Bool, cond}
 use mathlib.Core.List.{List}
 use lib.Dec.{ltb}
-use lib.IntN.{ℤ, pos}
-use lib.ListN.{length, getD}
+use lib.IntN.{ℤ}
+use lib.ListN.{length}
 use Rattle.order.specs.First.{first}
 use Rattle.order.specs.Order.{secOutside}
 use Rattle.gorilla.specs.Parser.{Read, read, refused}
 use Rattle.gorilla.specs.Reading.{Pairs}
 use Rattle.text.specs.Text.{Stands}
-use Rattle.date_writer.specs.DateText.{Dated}
+use Rattle.date_writer.specs.DateText.{AllDated}
 use Rattle.report.specs.Lines.{entriesText, refusedText}
 use Rattle.report.specs.Listing.{numberOf, tooLong, inputRead}
 
 -- 27: one of the first n seconds is out of domain
 abbrev pub someOutside : List ℤ → ℕ → Bool
 someOutside secs n = ltb (first (secOutside secs) n) n
-
--- `third` makes of each second the text of its date
-abbrev pub AllDated : (ℤ → List ℕ) → List ℤ → Type 0
-AllDated third secs = (i : ℕ) → i < length secs → Dated (getD secs i (pos 0)) (third (getD secs i (pos 0)))
 
 -- the text is `entries` and the pairs, as `listing` has them but for the dates in the third field
 abbrev pub DatedPairs : Pairs → List ℕ → Type 0

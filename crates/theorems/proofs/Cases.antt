@@ -1,5 +1,9 @@
 -- The table of cases, by computation.
 use mathlib.Core.Path.{refl}
+use mathlib.Core.List.{[], _∷_}
+use Prim.Native.Nat.{zero, suc}
+use native.Mathlib.Omega.{arith}
+use lib.IntN.{pos}
 use Rattle.order.specs.First.{firstFrom, lastOr}
 use Rattle.bit_lists.specs.BitList.{natBits, bitsOf, natFrom, bytesOf, packed}
 use Rattle.bits.specs.Place.{posOf}
@@ -18,12 +22,24 @@ use Rattle.decoder.specs.Decode.{listed}
 use Rattle.text.specs.Text.{digits, decimal, signedDecimal}
 use Rattle.report.specs.Lines.{line, lines, entriesText, refusedText}
 use Rattle.report.specs.Listing.{listingOf}
+use Rattle.report.specs.Dated.{DatedListing}
+use Rattle.calendar.specs.Calendar.{leap, lengthsOf, daysOfYears, summed}
+use Rattle.calendar.specs.Inner.{part, yearsBefore, dateOf, momentAt}
+use Rattle.date_writer.specs.DateText.{textOf, AllDated}
+use Rattle.date_writer.specs.Inner.{dateText}
+use Rattle.date_writer.proofs.Texts.{dated-text}
 use Rattle.theorems.specs.Run.{step, ranTo}
 use Rattle.theorems.specs.Cases.{Cases}
 use Rattle.theorems.proofs.DateCases.{date-cases}
 
+-- the dates of P5
+fifth-dated : AllDated dateText (pos 0 ∷ pos 60 ∷ [])
+fifth-dated zero l = dated-text (pos 0) refl
+fifth-dated (suc zero) l = dated-text (pos 60) refl
+fifth-dated (suc (suc i)) l = absurd (omega arith)
+
 pub cases : Cases
-unfolding readRule posOf arraysRule roomRule imageBytes leBytes arrayBits valuesBits codesBits codeBits rowOf packed bytesOf natFrom natBits wideOf wideIn wideAfter strict ranTo step runOf recordsOf firstFrom evens lastOr listed readPairs readPart leCount readArray readValues valuesAfter readCodes readCode countOnes cutNumber takeBits bitsOf digits decimal signedDecimal line lines entriesText refusedText listingOf
+unfolding readRule posOf arraysRule roomRule imageBytes leBytes arrayBits valuesBits codesBits codeBits rowOf packed bytesOf natFrom natBits wideOf wideIn wideAfter strict ranTo step runOf recordsOf firstFrom evens lastOr listed readPairs readPart leCount readArray readValues valuesAfter readCodes readCode countOnes cutNumber takeBits bitsOf digits decimal signedDecimal line lines entriesText refusedText listingOf DatedListing textOf leap lengthsOf summed daysOfYears part yearsBefore dateOf momentAt
 cases = record {
   extension = (refl, refl);
   extension-edges = (refl, refl, refl, refl, refl, refl);
@@ -34,6 +50,7 @@ cases = record {
   accepted = (refl, refl);
   P5 = (refl, refl);
   listing = refl;
+  listing-dates = ((dateText, fifth-dated, refl), refl);
   padding = (refl, refl, refl);
   P6 = (refl, refl);
   P7 = (refl, refl, refl);

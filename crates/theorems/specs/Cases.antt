@@ -35,6 +35,7 @@ use Rattle.offers.specs.Whole.{Table}
 use Rattle.restoring.specs.Restore.{restoreOf, restoreAt}
 use Rattle.text.specs.Ascii.{ascii}
 use Rattle.report.specs.Listing.{listingOf}
+use Rattle.report.specs.Dated.{DatedListing}
 use Rattle.theorems.specs.Alike.{keptIn}
 use Rattle.theorems.specs.DateCases.{DateCases}
 use Rattle.theorems.specs.Run.{Restoring, plain, naming, offered, reloaded, step, ranTo}
@@ -165,6 +166,10 @@ pub record Cases : Type 0 where
   pub P5 : WritesImage (pair 100 0 ∷ pair 164 60 ∷ []) (fifth 0x00 0x00)
   -- the listing of P5
   pub listing : listingOf (fifth 0x00 0x00) ≡ ascii "entries 2\n0 100 0\n1 164 60\n"
+  -- and with dates; of (5,253402300800), whose second has none, 27
+  pub listing-dates :
+      DatedListing (fifth 0x00 0x00) (ascii "entries 2\n0 100 1970-01-01T00:00:00Z\n1 164 1970-01-01T00:01:00Z\n")
+      × DatedListing (begun 1 ++ (0 ∷ 0 ∷ 0 ∷ 0 ∷ 0 ∷ 0 ∷ 0 ∷ 5 ∷ 0 ∷ 0 ∷ 0 ∷ 1 ∷ 0 ∷ 0 ∷ 0 ∷ 0x3A ∷ 0xFF ∷ 0xF4 ∷ 0x41 ∷ 0x80 ∷ [])) (ascii "refused 27\n")
   -- padding values are ignored
   pub padding :
       DecodeTells 3 (fifth 0x0F 0x7F) (gave 2)

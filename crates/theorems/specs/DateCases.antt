@@ -4,7 +4,7 @@ use Prim.Native.String.{String}
 use mathlib.Core.Path.{_≡_}
 use mathlib.Core.List.{[], _∷_}
 use lib.IntN.{ℤ, pos, negℤ}
-use Rattle.told.specs.Told.{Told, gave, refused}
+use Rattle.told.specs.Told.{gave, refused}
 use Rattle.text.specs.Ascii.{ascii}
 use Rattle.date_writer.specs.DateText.{Dated}
 use Rattle.dates.specs.Read.{readDate}

@@ -1,5 +1,5 @@
 use mathlib.Core.Path.{_≡_, sym, _∙_}
-use mathlib.Core.Bool.{true, false}
+use mathlib.Core.Bool.{false}
 use mir.Syntax.{w64}
 use mir.Val.{toZ, ofZ}
 use Rattle.limits.specs.Domain.{outside}

@@ -1,7 +1,7 @@
 use mathlib.Core.Path.{_≡_}
 use Prim.Native.Nat.{_%_}
 use Rattle.calendar.specs.Inner.{dated, dateOf}
-use Prim.Native.Nat.{ℕ, _+_, _≤_, _<_}
+use Prim.Native.Nat.{_≤_, _<_}
 use native.Mathlib.Omega.{arith}
 use Rattle.calendar.proofs.Calls.{y-small, y-from, y-in, p-small, p-made}
 use borrow.Author.Needs.{needs}

@@ -2,7 +2,6 @@ use native.Mathlib.Omega.{arith}
 use mathlib.Core.Path.{_∙_, ap}
 use Rattle.calendar.specs.Inner.{dateOf}
 use Rattle.calendar.proofs.Moments.{sum-fits, sum-cast, sum-is, moment-below}
-use borrow.Author.Needs.{needs}
 use Rattle.calendar.proofs.inner.date_of.Statement.{statement}
 use Rattle.calendar.proofs.inner.date_of.Tie as tie
 

@@ -1,6 +1,5 @@
 use borrow.Author.Tests.{lt-ltb, le-ltb}
 use Rattle.calendar.specs.Calendar.{isTime}
-use borrow.Author.Needs.{needs}
 use Rattle.calendar.proofs.inner.is_time.Statement.{statement}
 use Rattle.calendar.proofs.inner.is_time.Tie as tie
 

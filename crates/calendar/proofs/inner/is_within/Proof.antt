@@ -1,5 +1,4 @@
 use borrow.Author.Tests.{le-leb, lt-leb}
-use borrow.Author.Needs.{needs}
 use Rattle.calendar.proofs.inner.is_within.Statement.{statement}
 use Rattle.calendar.proofs.inner.is_within.Tie as tie
 

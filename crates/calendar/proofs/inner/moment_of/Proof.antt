@@ -1,6 +1,6 @@
 use mathlib.Core.Path.{_≡_}
 use Rattle.calendar.specs.Calendar.{momentOf}
-use Prim.Native.Nat.{ℕ, _+_, _-_, _*_, _≤_, _<_}
+use Prim.Native.Nat.{_+_, _-_, _*_, _<_}
 use native.Mathlib.Omega.{arith}
 use Rattle.calendar.proofs.Calls.{m-is, m-small}
 use borrow.Author.Needs.{needs}

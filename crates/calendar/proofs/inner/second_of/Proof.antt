@@ -1,10 +1,8 @@
 use Prim.Native.Nat.{_<_}
 use native.Mathlib.Omega.{arith}
-use mathlib.Core.Path.{_≡_, _∙_, ap}
-use Rattle.calendar.specs.Calendar.{momentOf}
+use mathlib.Core.Path.{_∙_, ap}
 use Rattle.calendar.proofs.Moments.{secondAt, sub-fits, sub-is, valid-means}
 use Rattle.calendar.proofs.Trip.{moment-in}
-use borrow.Author.Needs.{needs}
 use Rattle.calendar.proofs.inner.second_of.Statement.{statement}
 use Rattle.calendar.proofs.inner.second_of.Tie as tie
 

@@ -1,15 +1,15 @@
 use mathlib.Core.Path.{_≡_, _∙_, ap}
-use Prim.Native.Nat.{ℕ, _+_, _-_, _*_, _≤_, _<_}
+use Prim.Native.Nat.{ℕ, _+_, _-_, _≤_}
 use native.Mathlib.Omega.{arith}
-use lib.ListN.{take, getD}
-use Rattle.calendar.specs.Calendar.{lengthsOf, total}
+use lib.ListN.{take}
+use Rattle.calendar.specs.Calendar.{lengthsOf, summed}
 use Rattle.calendar.proofs.Steps.{ahead-more, ahead-small, none-ahead}
 use borrow.Author.Needs.{needs}
 use Rattle.calendar.proofs.months.days_before_month.Statement.{statement}
 use Rattle.calendar.proofs.months.days_before_month.Tie as tie
 
 abbrev Inv-loop : tie.InvT-loop
-Inv-loop leap m n₀ i₀ n i = (i ≤ m) × (n ≡ total (take i (lengthsOf leap)))
+Inv-loop leap m n₀ i₀ n i = (i ≤ m) × (n ≡ summed (take i (lengthsOf leap)))
 
 abbrev μ-loop : tie.MeasureT-loop
 μ-loop leap m n₀ i₀ n i = m - i
@@ -35,7 +35,7 @@ loop-again c = omega (arith, c .month-length .ensures, ahead-more (c .before .be
 returns : tie.Need-returns Inv-loop μ-loop
 returns c =
     let e : c .before .loop .i ≡ c .before .before .args .m = omega arith in
-    c .before .loop .inv .1 ∙ ap (λ (k : ℕ). total (take k (lengthsOf (c .before .before .args .leap)))) e
+    c .before .loop .inv .1 ∙ ap (λ (k : ℕ). summed (take k (lengthsOf (c .before .before .args .leap)))) e
 
 pub days-before-month-spec : {M : Type 1} → statement M
 days-before-month-spec =

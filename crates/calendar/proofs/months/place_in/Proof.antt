@@ -1,16 +1,15 @@
 use mathlib.Core.Path.{_≡_}
-use Prim.Native.Nat.{ℕ, _+_, _-_, _≤_, _<_}
+use Prim.Native.Nat.{_+_, _-_, _<_}
 use native.Mathlib.Omega.{arith}
-use lib.ListN.{take, getD}
-use Rattle.calendar.specs.Calendar.{lengthsOf, total}
-use Rattle.calendar.specs.Inner.{part}
+use lib.ListN.{take}
+use Rattle.calendar.specs.Calendar.{lengthsOf, summed}
 use Rattle.calendar.proofs.Steps.{ahead-more, not-yet, found, none-ahead}
 use borrow.Author.Needs.{needs}
 use Rattle.calendar.proofs.months.place_in.Statement.{statement}
 use Rattle.calendar.proofs.months.place_in.Tie as tie
 
 abbrev Inv-loop : tie.InvT-loop
-Inv-loop leap d m₀ left₀ m left = (m < 12) × (d ≡ total (take m (lengthsOf leap)) + left)
+Inv-loop leap d m₀ left₀ m left = (m < 12) × (d ≡ summed (take m (lengthsOf leap)) + left)
 
 abbrev μ-loop : tie.MeasureT-loop
 μ-loop leap d m₀ left₀ m left = 12 - m
@@ -36,7 +35,7 @@ loop-less c = search needs
 loop-again : tie.Need-loop-again Inv-loop μ-loop
 loop-again c =
     let at = c .before .before .before in
-    let e : at .before .args .d ≡ total (take (at .loop .m + 1) (lengthsOf (at .before .args .leap))) + (at .loop .left - c .month-length2 .result) =
+    let e : at .before .args .d ≡ summed (take (at .loop .m + 1) (lengthsOf (at .before .args .leap))) + (at .loop .left - c .month-length2 .result) =
     omega (arith, sub-left c, c .month-length2 .ensures, ahead-more (at .before .args .leap) (at .loop .m) (at .loop .inv .0)) in
     (not-yet (at .before .args .leap) (at .loop .m + 1) (at .before .args .d) _ (at .before .pre) e, e)
 

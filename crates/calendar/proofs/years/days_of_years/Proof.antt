@@ -1,5 +1,5 @@
-use mathlib.Core.Path.{refl}
-use Rattle.calendar.specs.Calendar.{daysOfYears}
+use mathlib.Core.Path.{sym}
+use Rattle.calendar.proofs.YearDays.{closed-form}
 use borrow.Author.Needs.{needs}
 use Rattle.calendar.proofs.years.days_of_years.Statement.{statement}
 use Rattle.calendar.proofs.years.days_of_years.Tie as tie
@@ -17,8 +17,7 @@ add-result-2 : tie.Need-add-result-2
 add-result-2 c = search needs
 
 returns : tie.Need-returns
-unfolding daysOfYears
-returns c = refl
+returns c = sym (closed-form _)
 
 pub days-of-years-spec : {M : Type 1} → statement M
 days-of-years-spec = tie.close (tie.spec mul-result add-result sub-result add-result-2 returns)

@@ -1,6 +1,5 @@
 use borrow.Author.Tests.{ne-eqb}
 use Rattle.calendar.proofs.Steps.{leap-fourth, leap-hundred, leap-none}
-use borrow.Author.Needs.{needs}
 use Rattle.calendar.proofs.years.is_leap.Statement.{statement}
 use Rattle.calendar.proofs.years.is_leap.Tie as tie
 

@@ -1,5 +1,4 @@
 use Rattle.dates.proofs.Judged.{offset-yes, offset-no}
-use borrow.Author.Needs.{needs}
 use Rattle.dates.proofs.judging.is_offset.Statement.{statement}
 use Rattle.dates.proofs.judging.is_offset.Tie as tie
 
