@@ -2,4 +2,5 @@
 pub mod At
 mod Parts
 pub mod Ends
+pub mod Fractions
 pub mod Written

@@ -1,2 +1,3 @@
 pub mod Grammar
+pub mod Fraction
 pub mod Inner

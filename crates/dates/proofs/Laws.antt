@@ -28,6 +28,7 @@ use Rattle.date_reader.specs.declared.Zone.{Zone}
 use Rattle.date_reader.specs.Grammar.{either, fraction, offset, end, Stamp, dateTime}
 use Rattle.date_reader.proofs.At.{then-read}
 use Rattle.date_reader.proofs.Ends.{whole}
+use Rattle.date_reader.proofs.Fractions.{left-out}
 use Rattle.date_reader.proofs.Written.{two-read, four-read}
 use Rattle.dates.specs.Read.{isOffset, offsetOf, utcOf, ifInside, judged, judgedText, readDate}
 use Rattle.dates.specs.Write.{writeDate, LeavesDate, WritesDate}
@@ -113,5 +114,6 @@ dates = record {
   apart = λ z w t h k. same-gift (sym (reads-back z t h) ∙ reads-back w t k);
   order = dated-order;
   written = written-read;
+  fraction = λ head ds tail e k l h g. ap judgedText (left-out head ds tail e k l h g);
   exactly = λ s z. (read-says s z, says-read s z);
 }

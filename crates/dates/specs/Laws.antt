@@ -1,9 +1,9 @@
 -- What holds of dates and their texts. Proved in proofs/Laws.antt.
-use Prim.Native.Nat.{ℕ}
+use Prim.Native.Nat.{ℕ, _≤_}
 use mathlib.Core.Path.{_≡_}
 use mathlib.Core.Logic.{_↔_}
 use mathlib.Core.Bool.{true, false}
-use mathlib.Core.List.{List, []}
+use mathlib.Core.List.{List, [], _++_}
 use lib.IntN.{ℤ}
 use lib.ListN.{length, take}
 use lib.Signed.{ltZ}
@@ -13,7 +13,9 @@ use Rattle.calendar.specs.Calendar.{isDate}
 use Rattle.calendar.specs.Laws.{before}
 use Rattle.gorilla.specs.Parser.{read}
 use Rattle.date_writer.specs.DateText.{Dated}
+use Rattle.text.specs.Ascii.{ascii}
 use Rattle.date_reader.specs.Grammar.{Stamp, dateTime}
+use Rattle.date_reader.specs.Fraction.{allDigits, otherFirst}
 use Rattle.dates.specs.Read.{isOffset, utcOf, readDate}
 use Rattle.dates.specs.Write.{WritesDate}
 use Rattle.dates.specs.declared.DateWritten.the-variants.{Written}
@@ -40,5 +42,8 @@ pub record Dates : Type 0 where
   pub order : (z w : ℤ) (t u : List ℕ) → Dated z t → Dated w u → before t u ≡ ltZ z w
   -- what `write_date` leaves in any output reads back
   pub written : (z : ℤ) (out out′ : List ℕ) (n : ℕ) → WritesDate z out (Written n) out′ → readDate (take n out′) ≡ gave z
+  -- a fraction changes nothing: after the 19 bytes of date and time of day, a point and one to nine digits read as if they were not there
+  pub fraction : (head ds tail : List ℕ) → length head ≡ 19 → 1 ≤ length ds → length ds ≤ 9 → allDigits ds ≡ true → otherFirst tail ≡ true
+      → readDate (head ++ (ascii "." ++ ds ++ tail)) ≡ readDate (head ++ tail)
   -- the reader gives a second exactly where the text says it by the calendar's sum
   pub exactly : (s : List ℕ) (z : ℤ) → (readDate s ≡ gave z) ↔ Says s z
