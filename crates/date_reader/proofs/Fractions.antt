@@ -1,5 +1,5 @@
 -- A fraction changes nothing in what is read. Assumes nothing.
-use mathlib.Core.Path.{_≡_, refl, ap, _∙_, sym}
+use mathlib.Core.Path.{_≡_, refl, _∙_, sym}
 use mathlib.Core.Bool.{Bool, true, false, cond, not, _&&_, _||_, true≢false}
 use mathlib.Core.List.{List, [], _∷_, _++_}
 use Prim.Native.Nat.{ℕ, zero, suc, _+_, _-_, _*_, _≤_}
@@ -8,7 +8,7 @@ use lib.Dec.{eqb}
 use lib.ListN.{length}
 use Rattle.gorilla.specs.Parser.{Read, read, Reader, andThen}
 use Rattle.calendar.specs.declared.Date.{Date}
-use Rattle.date_reader.specs.Grammar.{bad, isDigit, moreDigits, number, either, byte, upTo, oneToNine, fraction, dateTime}
+use Rattle.date_reader.specs.Grammar.{bad, isDigit, moreDigits, either, upTo, fraction, dateTime}
 use Rattle.date_reader.specs.Fraction.{allDigits, otherFirst}
 use Rattle.date_reader.specs.Inner.{afterHead}
 use Rattle.date_reader.proofs.At.{then-read}
