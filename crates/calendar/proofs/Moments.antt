@@ -93,7 +93,7 @@ module _ (z : ℤ) (f : SFits w64 z) (h : outside z ≡ false) where
   sum-is = ap natAbs back
 
 -- ---- the test of a date
-and-true : (a b : Bool) → a && b ≡ true → (a ≡ true) × (b ≡ true)
+pub and-true : (a b : Bool) → a && b ≡ true → (a ≡ true) × (b ≡ true)
 and-true true b e = (refl, e)
 and-true false b e = absurd (true≢false (sym e))
 

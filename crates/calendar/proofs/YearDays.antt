@@ -2,30 +2,43 @@
 use mathlib.Core.Path.{_≡_, refl, ap, _∙_, sym}
 use mathlib.Core.Bool.{Bool, true, false, cond, not, _&&_, _||_}
 use Prim.Native.Nat.{ℕ, zero, suc, _+_, _-_, _*_, _/_, _%_, _≤_, _<_}
+use native.Mathlib.Nat.{suc-mul, mod-lt, div-add-mod'}
 use native.Mathlib.Omega.{arith}
 use borrow.Author.Tests.{ltb-true, ltb-false, eqb-true, eqb-false}
+use lib.Arith.{digits-div, digits-mod}
 use lib.Dec.{ltb, eqb}
 use Rattle.calendar.specs.Calendar.{leap, daysOfYears, lengthsOf, summed}
 use Rattle.calendar.specs.Inner.{yearsBefore}
 
 -- a quotient as its dividend grows by one
-up4 : (k : ℕ) → (k + 1) % 4 ≡ 0 → (k + 1) / 4 ≡ k / 4 + 1
-up4 k h = omega arith
+module _ (m k : ℕ) (h : zero < m) where
+  same : (q r : ℕ) → q * m + r ≡ k → r + 1 < m → ((k + 1) / m ≡ q) × ((k + 1) % m ≡ r + 1)
+  same q r s l =
+      let e : k + 1 ≡ q * m + (r + 1) = omega (arith, s) in
+      (ap (λ (x : ℕ). x / m) e ∙ digits-div q l, ap (λ (x : ℕ). x % m) e ∙ digits-mod q l)
 
-up100 : (k : ℕ) → (k + 1) % 100 ≡ 0 → (k + 1) / 100 ≡ k / 100 + 1
-up100 k h = omega arith
+  next : (q r : ℕ) → q * m + r ≡ k → r + 1 ≡ m → ((k + 1) / m ≡ q + 1) × ((k + 1) % m ≡ 0)
+  next q r s l =
+      let e : k + 1 ≡ suc q * m + 0 = omega (arith, s, suc-mul q m) in
+      let f : suc q ≡ q + 1 = omega arith in
+      (ap (λ (x : ℕ). x / m) e ∙ digits-div (suc q) h ∙ f, ap (λ (x : ℕ). x % m) e ∙ digits-mod (suc q) h)
 
-up400 : (k : ℕ) → (k + 1) % 400 ≡ 0 → (k + 1) / 400 ≡ k / 400 + 1
-up400 k h = omega arith
+  up : (k + 1) % m ≡ 0 → (k + 1) / m ≡ k / m + 1
+  up e = go (ltb (k % m + 1) m) refl
+    where
+      go : (b : Bool) → ltb (k % m + 1) m ≡ b → (k + 1) / m ≡ k / m + 1
+      go true t = absurd (omega (arith, same (k / m) (k % m) (div-add-mod' k m) (ltb-true (k % m + 1) m t) .1))
+      go false t = next (k / m) (k % m) (div-add-mod' k m) (omega (arith, ltb-false (k % m + 1) m t, mod-lt k h)) .0
 
-at4 : (k : ℕ) → ((k + 1) % 4 ≡ 0 → ⊥) → (k + 1) / 4 ≡ k / 4 + 0
-at4 k h = omega arith
+  stay : ((k + 1) % m ≡ 0 → ⊥) → (k + 1) / m ≡ k / m + 0
+  stay n = go (ltb (k % m + 1) m) refl
+    where
+      none : k / m ≡ k / m + 0
+      none = omega arith
 
-at100 : (k : ℕ) → ((k + 1) % 100 ≡ 0 → ⊥) → (k + 1) / 100 ≡ k / 100 + 0
-at100 k h = omega arith
-
-at400 : (k : ℕ) → ((k + 1) % 400 ≡ 0 → ⊥) → (k + 1) / 400 ≡ k / 400 + 0
-at400 k h = omega arith
+      go : (b : Bool) → ltb (k % m + 1) m ≡ b → (k + 1) / m ≡ k / m + 0
+      go true t = same (k / m) (k % m) (div-add-mod' k m) (ltb-true (k % m + 1) m t) .0 ∙ none
+      go false t = absurd (n (next (k / m) (k % m) (div-add-mod' k m) (omega (arith, ltb-false (k % m + 1) m t, mod-lt k h)) .1))
 
 grown : (k a b c p q r n : ℕ) {a' b' c' : ℕ} → b ≤ k → a' ≡ a + p → b' ≡ b + q → c' ≡ c + r → q ≤ 1 → n + q ≡ 365 + p + r → 365 * (k + 1) + a' - b' + c' ≡ 365 * k + a - b + c + n
 grown k a b c p q r n h e f g u v = omega arith
@@ -43,16 +56,16 @@ closed-next k = go (eqb ((k + 1) % 4) 0) (eqb ((k + 1) % 100) 0) (eqb ((k + 1) %
   where
     go : (a b c : Bool) → eqb ((k + 1) % 4) 0 ≡ a → eqb ((k + 1) % 100) 0 ≡ b → eqb ((k + 1) % 400) 0 ≡ c → closed (k + 1) ≡ closed k + summed (lengthsOf (a && (not b || c)))
     go true true true p q r =
-        grown k (k / 4) (k / 100) (k / 400) 1 1 1 366 (under k) (up4 k (eqb-true _ _ p)) (up100 k (eqb-true _ _ q)) (up400 k (eqb-true _ _ r)) (omega arith) refl
+        grown k (k / 4) (k / 100) (k / 400) 1 1 1 366 (under k) (up 4 k (omega arith) (eqb-true _ _ p)) (up 100 k (omega arith) (eqb-true _ _ q)) (up 400 k (omega arith) (eqb-true _ _ r)) (omega arith) refl
     go true true false p q r =
-        grown k (k / 4) (k / 100) (k / 400) 1 1 0 365 (under k) (up4 k (eqb-true _ _ p)) (up100 k (eqb-true _ _ q)) (at400 k (eqb-false _ _ r)) (omega arith) refl
+        grown k (k / 4) (k / 100) (k / 400) 1 1 0 365 (under k) (up 4 k (omega arith) (eqb-true _ _ p)) (up 100 k (omega arith) (eqb-true _ _ q)) (stay 400 k (omega arith) (eqb-false _ _ r)) (omega arith) refl
     go true false true p q r = absurd (eqb-false ((k + 1) % 100) 0 q (omega (arith, eqb-true ((k + 1) % 400) 0 r)))
     go true false false p q r =
-        grown k (k / 4) (k / 100) (k / 400) 1 0 0 366 (under k) (up4 k (eqb-true _ _ p)) (at100 k (eqb-false _ _ q)) (at400 k (eqb-false _ _ r)) (omega arith) refl
+        grown k (k / 4) (k / 100) (k / 400) 1 0 0 366 (under k) (up 4 k (omega arith) (eqb-true _ _ p)) (stay 100 k (omega arith) (eqb-false _ _ q)) (stay 400 k (omega arith) (eqb-false _ _ r)) (omega arith) refl
     go false true c p q r = absurd (eqb-false ((k + 1) % 4) 0 p (omega (arith, eqb-true ((k + 1) % 100) 0 q)))
     go false false true p q r = absurd (eqb-false ((k + 1) % 100) 0 q (omega (arith, eqb-true ((k + 1) % 400) 0 r)))
     go false false false p q r =
-        grown k (k / 4) (k / 100) (k / 400) 0 0 0 365 (under k) (at4 k (eqb-false _ _ p)) (at100 k (eqb-false _ _ q)) (at400 k (eqb-false _ _ r)) (omega arith) refl
+        grown k (k / 4) (k / 100) (k / 400) 0 0 0 365 (under k) (stay 4 k (omega arith) (eqb-false _ _ p)) (stay 100 k (omega arith) (eqb-false _ _ q)) (stay 400 k (omega arith) (eqb-false _ _ r)) (omega arith) refl
 
 one-more : (k : ℕ) → k + 1 ≡ suc k
 one-more k = omega arith
@@ -67,20 +80,14 @@ pub year-length : (k : ℕ) → daysOfYears (k + 1) ≡ daysOfYears k + summed (
 year-length k = rw (closed-form (k + 1), closed-form k) (closed-next k)
 
 -- later years start later
-mono4 : (j k : ℕ) → j ≤ k → j / 4 ≤ k / 4
-mono4 j k h = omega arith
-
-mono400 : (j k : ℕ) → j ≤ k → j / 400 ≤ k / 400
-mono400 j k h = omega arith
-
-slow100 : (j k : ℕ) → j ≤ k → k / 100 ≤ j / 100 + (k - j)
-slow100 j k h = omega arith
-
-risen : (j k a b c a' b' c' : ℕ) → j ≤ k → b ≤ j → a ≤ a' → b' ≤ b + (k - j) → c ≤ c' → 365 * j + a - b + c ≤ 365 * k + a' - b' + c'
-risen j k a b c a' b' c' h i e f g = omega arith
-
 pub days-mono : (j k : ℕ) → j ≤ k → daysOfYears j ≤ daysOfYears k
-days-mono j k h = rw (closed-form j, closed-form k) (risen j k (j / 4) (j / 100) (j / 400) (k / 4) (k / 100) (k / 400) h (under j) (mono4 j k h) (slow100 j k h) (mono400 j k h))
+unfolding daysOfYears
+days-mono j zero h = let e : j ≡ 0 = omega arith in rw e (omega arith)
+days-mono j (suc k) h = go (ltb j (suc k)) refl (λ l. days-mono j k l)
+  where
+    go : (b : Bool) → ltb j (suc k) ≡ b → (j ≤ k → daysOfYears j ≤ daysOfYears k) → daysOfYears j ≤ daysOfYears (suc k)
+    go true t f = omega (arith, f (omega (arith, ltb-true j (suc k) t)))
+    go false t f = let e : j ≡ suc k = omega (arith, ltb-false j (suc k) t) in rw e (omega arith)
 
 -- the guess is not too high, and at most one too low
 low : (d : ℕ) → daysOfYears (d * 400 / 146097) ≤ d

@@ -1,6 +1,6 @@
 -- A fraction changes nothing in what is read. Assumes nothing.
 use mathlib.Core.Path.{_≡_, refl, _∙_, sym}
-use mathlib.Core.Bool.{Bool, true, false, cond, not, _&&_, _||_, true≢false}
+use mathlib.Core.Bool.{Bool, true, false, cond, not, _||_, true≢false}
 use mathlib.Core.List.{List, [], _∷_, _++_}
 use Prim.Native.Nat.{ℕ, zero, suc, _+_, _-_, _*_, _≤_}
 use native.Mathlib.Omega.{arith}
@@ -8,6 +8,7 @@ use lib.Dec.{eqb}
 use lib.ListN.{length}
 use Rattle.gorilla.specs.Parser.{Read, read, Reader, andThen}
 use Rattle.calendar.specs.declared.Date.{Date}
+use Rattle.calendar.proofs.Moments.{and-true}
 use Rattle.date_reader.specs.Grammar.{bad, isDigit, moreDigits, either, upTo, fraction, dateTime}
 use Rattle.date_reader.specs.Fraction.{allDigits, otherFirst}
 use Rattle.date_reader.specs.Inner.{afterHead}
@@ -49,10 +50,6 @@ head-same X Y h =
     ended d (x ∷ l) e = absurd (omega (arith, e))
 
 -- ---- a fraction, and what follows it
-both : (a b : Bool) → a && b ≡ true → (a ≡ true) × (b ≡ true)
-both true b e = (refl, e)
-both false b e = absurd (true≢false (sym e))
-
 not-so : (a : Bool) → not a ≡ true → a ≡ false
 not-so true e = absurd (true≢false (sym e))
 not-so false e = refl
@@ -61,24 +58,24 @@ none-more : (k : ℕ) (tail : List ℕ) → otherFirst tail ≡ true → upTo k 
 unfolding upTo otherFirst
 none-more zero tail h = refl
 none-more (suc k) [] h = refl
-none-more (suc k) (x ∷ s) h = rw (not-so (isDigit x) (both (not (isDigit x)) (not (eqb x 46)) h .0))
+none-more (suc k) (x ∷ s) h = rw (not-so (isDigit x) (and-true (not (isDigit x)) (not (eqb x 46)) h .0))
 
 up-to : (k : ℕ) (ds tail : List ℕ) → length ds ≤ k → allDigits ds ≡ true → otherFirst tail ≡ true → upTo k (ds ++ tail) ≡ read tt tail
 unfolding upTo allDigits
 up-to k [] tail l h g = none-more k tail g
 up-to zero (x ∷ ds) tail l h g = absurd (omega arith)
-up-to (suc k) (x ∷ ds) tail l h g = let p = both (isDigit x) (allDigits ds) h in rw (p .0) (up-to k ds tail (omega arith) (p .1) g)
+up-to (suc k) (x ∷ ds) tail l h g = let p = and-true (isDigit x) (allDigits ds) h in rw (p .0) (up-to k ds tail (omega arith) (p .1) g)
 
 no-fraction : (tail : List ℕ) → otherFirst tail ≡ true → fraction tail ≡ read tt tail
 unfolding fraction otherFirst
 no-fraction [] h = refl
-no-fraction (x ∷ s) h = rw (not-so (eqb x 46) (both (not (isDigit x)) (not (eqb x 46)) h .1))
+no-fraction (x ∷ s) h = rw (not-so (eqb x 46) (and-true (not (isDigit x)) (not (eqb x 46)) h .1))
 
 a-fraction : (ds tail : List ℕ) → 1 ≤ length ds → length ds ≤ 9 → allDigits ds ≡ true → otherFirst tail ≡ true → fraction (46 ∷ ds ++ tail) ≡ read tt tail
 unfolding fraction allDigits moreDigits
 a-fraction [] tail k l h g = absurd (omega arith)
 a-fraction (x ∷ ds) tail k l h g =
-    let p = both (isDigit x) (allDigits ds) h in
+    let p = and-true (isDigit x) (allDigits ds) h in
     rw (p .0) (up-to 8 ds tail (omega arith) (p .1) g)
 
 pub left-out : (head ds tail : List ℕ) → length head ≡ 19 → 1 ≤ length ds → length ds ≤ 9 → allDigits ds ≡ true → otherFirst tail ≡ true

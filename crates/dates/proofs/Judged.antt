@@ -1,6 +1,6 @@
 -- What a date-time of the grammar says. Assumes nothing.
-use mathlib.Core.Path.{_≡_, refl, ap, _∙_, sym}
-use mathlib.Core.Bool.{Bool, true, false, _&&_, true≢false}
+use mathlib.Core.Path.{_≡_, refl, ap, _∙_}
+use mathlib.Core.Bool.{Bool, true, false}
 use mathlib.Core.List.{[], _∷_}
 use Prim.Native.Nat.{ℕ, zero, suc, _+_, _-_, _*_, _^_, _≤_, _<_}
 use native.Mathlib.Omega.{arith}
@@ -17,6 +17,7 @@ use Rattle.order.proofs.Domain.{inside-mag, mag-diff}
 use Rattle.calendar.specs.declared.Date.{Date}
 use Rattle.calendar.specs.Calendar.{secondOf, isDate}
 use Rattle.calendar.proofs.Laws.{calendar}
+use Rattle.calendar.proofs.Moments.{and-true}
 use Rattle.date_reader.specs.declared.Zone.{Zone}
 use Rattle.dates.specs.Read.{isOffset, offsetOf, ifInside, judged}
 
@@ -35,11 +36,9 @@ module _ (z : Zone) where
 
   pub offset-parts : isOffset z ≡ true → (z .hours ≤ 23) × (z .minutes ≤ 59)
   unfolding isOffset
-  offset-parts e = go (leb (z .hours) 23) refl e
-    where
-      go : (b : Bool) → leb (z .hours) 23 ≡ b → b && leb (z .minutes) 59 ≡ true → (z .hours ≤ 23) × (z .minutes ≤ 59)
-      go true h k = (leb-true (z .hours) 23 h, leb-true (z .minutes) 59 k)
-      go false h k = absurd (true≢false (sym k))
+  offset-parts e =
+      let p = and-true (leb (z .hours) 23) (leb (z .minutes) 59) e in
+      (leb-true (z .hours) 23 (p .0), leb-true (z .minutes) 59 (p .1))
 
   pub offset-ahead : z .ahead ≡ true → pos (seconds z) ≡ offsetOf z
   unfolding offsetOf
