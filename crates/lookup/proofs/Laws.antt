@@ -96,12 +96,12 @@ lookup-seq table seqs secs ts = lookup ltZ int-order (pos 0) secs (table .count)
 
 -- the place that answers is told by the first n keys
 module _ {K : Type 0} (lt : K → K → Bool) (d : K) (n : ℕ) (keys keys′ : List K) (e : take n keys ≡ take n keys′) (x : K) where
-  place-same : (opt : FindOption) → place lt d opt keys n x ≡ place lt d opt keys′ n x
+  pub place-same : (opt : FindOption) → place lt d opt keys n x ≡ place lt d opt keys′ n x
   place-same RoundUp = first-same (λ i. not (smaller lt d keys x i)) (λ i. not (smaller lt d keys′ x i)) n (λ j l. rw (kept-at n keys keys′ j d e l))
   place-same RoundDown = final-same (λ i. not (greater lt d keys x i)) n (λ i. not (greater lt d keys′ x i)) (λ j l. rw (kept-at n keys keys′ j d e l))
 
 -- and so is what stands there
-standing-same : {A : Type 0} (at at′ : ℕ → A) (n p : ℕ) → (p < n → at p ≡ at′ p) → standing at n p ≡ standing at′ n p
+pub standing-same : {A : Type 0} (at at′ : ℕ → A) (n p : ℕ) → (p < n → at p ≡ at′ p) → standing at n p ≡ standing at′ n p
 standing-same at at′ n p same = go (ltb p n) refl
   where
     go : (b : Bool) → ltb p n ≡ b → cond b (partner (at p)) nothing ≡ cond b (partner (at′ p)) nothing

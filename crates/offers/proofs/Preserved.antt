@@ -49,12 +49,12 @@ count-fits cap n m c h p =
     (below-or n cap)
 
 -- the last kept second is not above the one offered
-after-last : (last : LastRecorded) (secs : List ℤ) (n : ℕ) (s : ℤ) → lastMisplaced last n ≡ false → lastBelow last secs n ≡ false → goesBack last s ≡ false → 0 < n → ltZ s (getD secs (n - 1) (pos 0)) ≡ false
+pub after-last : (last : LastRecorded) (secs : List ℤ) (n : ℕ) (s : ℤ) → lastMisplaced last n ≡ false → lastBelow last secs n ≡ false → goesBack last s ≡ false → 0 < n → ltZ s (getD secs (n - 1) (pos 0)) ≡ false
 after-last Never secs n s m b t p = absurd (omega (arith, eqb-true n 0 (not-false (eqb n 0) m)))
 after-last (At l) secs n s m b t p = further ltZ int-order (getD secs (n - 1) (pos 0)) (l .0) s b t
 
 -- the last kept sequence is not above the one offered
-after-low : (seqs : List ℕ) (n q : ℕ) → lowSeq seqs n q ≡ false → 0 < n → ltb q (getD seqs (n - 1) 0) ≡ false
+pub after-low : (seqs : List ℕ) (n q : ℕ) → lowSeq seqs n q ≡ false → 0 < n → ltb q (getD seqs (n - 1) 0) ≡ false
 after-low seqs n q h p = rw (ne-eqb n 0 (λ e. omega arith)) at h
 
 module _ (table : SequenceTracker) (seqs : List ℕ) (secs : List ℤ) (seq : Seq) (ts : Second) where

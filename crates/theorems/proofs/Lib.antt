@@ -1,8 +1,8 @@
--- The proofs of the statements in specs/: `demand` in Run, `lists-are-offers` in Lists, `rest-alone` in Alike, `totals-count` in Totals, `cases` in Cases.
+-- The proofs of the statements in specs/: `demand` in Run, `lists-are-offers` in Lists, `rest-alone` in Alike, `totals-count` in Totals.
 mod Kept
-mod Sound
+pub mod Sound
 mod Small
-mod Restored
+pub mod Restored
 mod Logged
 mod Reload
 mod Exact
@@ -10,6 +10,3 @@ pub mod Alike
 pub mod Totals
 pub mod Run
 pub mod Lists
-mod Example
-mod DateCases
-pub mod Cases

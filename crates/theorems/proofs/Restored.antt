@@ -1,4 +1,4 @@
--- A table that a restore leaves is sound, whatever bytes it read.
+-- A table that a restore leaves is sound, whatever bytes it read, and keeps the pairs that they hold.
 use mathlib.Core.Path.{_≡_, refl, sym, _∙_}
 use mathlib.Core.Bool.{Bool, true, false, cond}
 use mathlib.Core.List.{List, [], _∷_}
@@ -28,11 +28,12 @@ use Rattle.tracker.specs.declared.LastRecorded.the-variants.{Never, At}
 use Rattle.tracker.proofs.Good.{Sorted, sorted, fine-again}
 use Rattle.tracker.proofs.Kept.{kept-at, pairs-kept}
 use Rattle.offers.proofs.Rise.{over-length}
-use Rattle.offers.specs.Whole.{whole}
+use Rattle.offers.specs.Whole.{Table, whole}
 use Rattle.settling.specs.Settle.{lastOf}
 use Rattle.restoring.specs.Restore.{readTable, judged, tooShort, readInto, RestoresAt}
 use Rattle.restoring.proofs.Loading.{places}
 use Rattle.restoring.specs.declared.Restored.the-variants as restored
+use Rattle.theorems.specs.Alike.{keptIn}
 use Rattle.theorems.specs.Run.{Lent}
 use Rattle.theorems.proofs.Small.{seqs-small}
 use Rattle.theorems.proofs.Sound.{Sound}
@@ -82,16 +83,35 @@ settled : (x : Told (Unit {0})) (s t : SequenceTracker) → ifGood x (gave s) �
 settled (gave tt) s t h = (refl, same-gift h)
 settled (refused l) s t h = absurd (not-given l t h)
 
-pub restored-sound : (interval : ℕ) (bytes seqs seqs′ : List ℕ) (secs secs′ : List ℤ) (t : SequenceTracker) → RestoresAt interval bytes seqs secs (restored.Table t) seqs′ secs′ → Sound interval (whole t seqs′ secs′)
-restored-sound interval bytes seqs seqs′ secs secs′ t (told, es, et) =
-    let named = passed (badSettings defaultCapacity interval) (15 ∷ []) (readInto interval bytes seqs secs) t (sym told) in
-    let short = passed (tooShort (length seqs) (length secs)) (14 ∷ []) (judged interval (readTable bytes)) t (named .1) in
-    rw (es, et) (go (named .0) (readTable bytes) refl (places (length seqs) (length secs) (short .0)) (short .1))
-  where
-    go : badSettings defaultCapacity interval ≡ false → (r : Read Pairs) → readTable bytes ≡ r → Lent seqs secs → judged interval r ≡ gave t → Sound interval (whole t (over (pairsRead r .seqs) seqs) (over (pairsRead r .secs) secs))
-    go valid (read p left) e lent j =
-        let n = length (p .seqs) in
-        let counts = image-counts (λ m. leb m 8192) bytes e in
-        let x = settled (pairsOf (p .seqs) (p .secs) n) (freshTable defaultCapacity interval n (lastOf (p .secs) n)) t j in
-        rw (← x .1) (settled-sound interval valid p seqs secs lent n refl (sym (counts .0)) (omega (arith, counts .0, leb-true (length (p .secs)) 8192 (counts .1))) (seqs-small (λ m. leb m 8192) bytes left p e) (x .0))
-    go valid (parser.refused l) e lent j = absurd (not-given l t j)
+module _ (interval : ℕ) (bytes seqs seqs′ : List ℕ) (secs secs′ : List ℤ) (t : SequenceTracker) (h : RestoresAt interval bytes seqs secs (restored.Table t) seqs′ secs′) where
+  -- what holds of the pairs that are read, and of the table that is made of them, holds of the table that it leaves
+  by-reading : (C : Pairs → Table → Type 0)
+      → (badSettings defaultCapacity interval ≡ false → Lent seqs secs → (p : Pairs) (left : List ℕ) → readTable bytes ≡ read p left → pairsOf (p .seqs) (p .secs) (length (p .seqs)) ≡ gave tt
+      → C p (whole (freshTable defaultCapacity interval (length (p .seqs)) (lastOf (p .secs) (length (p .seqs)))) (over (p .seqs) seqs) (over (p .secs) secs)))
+      → C (pairsRead (readTable bytes)) (whole t seqs′ secs′)
+  by-reading C made =
+      let named = passed (badSettings defaultCapacity interval) (15 ∷ []) (readInto interval bytes seqs secs) t (sym (h .0)) in
+      let short = passed (tooShort (length seqs) (length secs)) (14 ∷ []) (judged interval (readTable bytes)) t (named .1) in
+      rw (h .1, h .2) (go (named .0) (readTable bytes) refl (places (length seqs) (length secs) (short .0)) (short .1))
+    where
+      go : badSettings defaultCapacity interval ≡ false → (r : Read Pairs) → readTable bytes ≡ r → Lent seqs secs → judged interval r ≡ gave t → C (pairsRead r) (whole t (over (pairsRead r .seqs) seqs) (over (pairsRead r .secs) secs))
+      go valid (read p left) e lent j =
+          let n = length (p .seqs) in
+          let x = settled (pairsOf (p .seqs) (p .secs) n) (freshTable defaultCapacity interval n (lastOf (p .secs) n)) t j in
+          rw (← x .1) (made valid lent p left e (x .0))
+      go valid (parser.refused l) e lent j = absurd (not-given l t j)
+
+  pub restored-sound : Sound interval (whole t seqs′ secs′)
+  restored-sound =
+      by-reading (λ p w. Sound interval w) (λ valid lent p left e right.
+      let counts = image-counts (λ m. leb m 8192) bytes e in
+      settled-sound interval valid p seqs secs lent (length (p .seqs)) refl (sym (counts .0)) (omega (arith, counts .0, leb-true (length (p .secs)) 8192 (counts .1))) (seqs-small (λ m. leb m 8192) bytes left p e) right)
+
+  -- it keeps the pairs that were read
+  pub restored-kept : keptIn (whole t seqs′ secs′) ≡ pairsRead (readTable bytes)
+  restored-kept =
+      by-reading (λ p w. keptIn w ≡ p) (λ valid lent p left e right.
+      let n = length (p .seqs) in
+      let one : take n (over (p .seqs) seqs) ≡ p .seqs = take-at (p .seqs) _ n refl in
+      let two : take n (over (p .secs) secs) ≡ p .secs = take-at (p .secs) _ n (sym (image-counts (λ m. leb m 8192) bytes e .0)) in
+      λ i. record { seqs = one i; secs = two i })

@@ -9,7 +9,7 @@ use lib.IntN.{ℤ}
 use lib.ListN.{length, getD}
 use Rattle.told.specs.Told.{Told, gave, refused}
 use Rattle.order.specs.First.{firstFrom}
-use Rattle.limits.specs.Settings.{badSettings}
+use Rattle.limits.specs.Settings.{badSettings, roomOf}
 use Rattle.fresh.specs.Fresh.{defaultCapacity, emptyTable}
 use Rattle.totals.specs.Totals.{sumOf, most}
 use Rattle.totals.specs.declared.Fate.{Fate}
@@ -26,7 +26,7 @@ use Rattle.offers.proofs.Preserved.{taken, stays-good, recorded-count}
 use Rattle.offers.proofs.Alike.{Alike, good-alike, alike-told, alike-after, rest-with}
 use Rattle.offers.proofs.Newest.{newest-sec}
 use Rattle.settling.specs.Settle.{lastOf}
-use Rattle.offers.specs.Whole.{Table, whole}
+use Rattle.offers.specs.Whole.{Table, whole, checkIn}
 use Rattle.theorems.specs.Alike.{keptIn}
 use Rattle.theorems.specs.Run.{Lent}
 use Rattle.theorems.proofs.Kept.{kept-all, some-kept}
@@ -90,11 +90,15 @@ module _ (w v : Table) (a : Alike w v) (seq : Seq) (ts : Second) (room : sumOf (
   pub offered-alike : Alike (offeredTo w seq ts (offerTo w seq ts)) (offeredTo v seq ts (offerTo v seq ts))
   offered-alike = let t = alike-told seq ts w v a room room′ in rw (t .1) (alike-after seq ts w v a (offerTo w seq ts) (t .0) refl (t .1))
 
--- an empty table
-pub empty-sound : (interval : ℕ) (seqs : List ℕ) (secs : List ℤ) → badSettings defaultCapacity interval ≡ false → Lent seqs secs → Sound interval (whole (emptyTable defaultCapacity interval) seqs secs)
+-- an empty table, at any valid settings
+pub empty-good : (capacity interval : ℕ) (seqs : List ℕ) (secs : List ℤ) → badSettings capacity interval ≡ false → roomOf capacity ≤ length seqs → roomOf capacity ≤ length secs
+    → checkIn (whole (emptyTable capacity interval) seqs secs) ≡ gave tt
 unfolding firstFrom
+empty-good capacity interval seqs secs v a b = rw (v, le-ltb (length seqs) (roomOf capacity) a, le-ltb (length secs) (roomOf capacity) b, le-ltb (roomOf capacity) 0 (omega arith))
+
+pub empty-sound : (interval : ℕ) (seqs : List ℕ) (secs : List ℤ) → badSettings defaultCapacity interval ≡ false → Lent seqs secs → Sound interval (whole (emptyTable defaultCapacity interval) seqs secs)
 empty-sound interval seqs secs v (a, b) = record {
-  good = rw (v, le-ltb (length seqs) 8192 a, le-ltb (length secs) 8192 b);
+  good = empty-good defaultCapacity interval seqs secs v a b;
   capacity = refl;
   own-interval = refl;
   last = refl;

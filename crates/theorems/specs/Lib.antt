@@ -2,5 +2,3 @@ pub mod Alike
 pub mod Run
 pub mod Lists
 pub mod Totals
-pub mod DateCases
-pub mod Cases

@@ -1,1 +1,1 @@
-// No code: the cases of docs/RULES.md as one table and the third demand are in specs/, their proofs in proofs/.
+// No code: the third demand, and what else holds of runs of offers, is in specs/, the proofs in proofs/.

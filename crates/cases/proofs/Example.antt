@@ -18,9 +18,9 @@ use Rattle.keeping.specs.Keep.{evens}
 use Rattle.encoder.specs.Encode.{arraysRule}
 use Rattle.told.specs.Room.{roomRule}
 use Rattle.offers.specs.Whole.{Table, whole}
 use Rattle.theorems.specs.Run.{new, Restoring, plain, naming, Event, offered, reloaded, step, ranTo, GoesOn}
-use Rattle.theorems.specs.Cases.{fifth}
+use Rattle.cases.specs.Given.{fifth}
 use Rattle.theorems.proofs.Run.{demand}
 
 offer : ℕ → ℕ → Event
 offer seq ts = offered (record { 0 = seq }) (record { 0 = pos ts })

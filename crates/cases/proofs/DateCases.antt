@@ -8,7 +8,7 @@ use Rattle.date_writer.specs.DateText.{textOf}
 use Rattle.date_reader.specs.Grammar.{isDigit, moreDigits, either, upTo, fraction, offset, end, dateTime}
 use Rattle.dates.specs.Read.{isOffset, offsetOf, judged}
 use Rattle.dates.specs.Write.{writeDate}
-use Rattle.theorems.specs.DateCases.{DateCases}
+use Rattle.cases.specs.DateCases.{DateCases}
 
 abbrev at : ℕ → ℕ → ℕ → ℕ → ℕ → ℕ → Date
 at y m d h n s = record { year = y; month = m; day = d; hour = h; minute = n; second = s }

@@ -28,9 +28,10 @@ use Rattle.calendar.specs.Inner.{part, yearsBefore, dateOf, momentAt}
 use Rattle.date_writer.specs.DateText.{textOf, AllDated}
 use Rattle.date_writer.specs.Inner.{dateText}
 use Rattle.date_writer.proofs.Texts.{dated-text}
 use Rattle.theorems.specs.Run.{step, ranTo}
-use Rattle.theorems.specs.Cases.{Cases}
-use Rattle.theorems.proofs.DateCases.{date-cases}
+use Rattle.cases.specs.Cases.{Cases}
+use Rattle.cases.proofs.DateCases.{date-cases}
+use Rattle.cases.proofs.HalvingCases.{halving-cases}
 
 -- the dates of P5
 fifth-dated : AllDated dateText (pos 0 ∷ pos 60 ∷ [])
@@ -81,4 +82,5 @@ cases = record {
   bits-left = (refl, refl, refl, refl, refl);
   order = (refl, refl);
   dates = date-cases;
+  halving = halving-cases;
 }

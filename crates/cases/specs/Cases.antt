@@ -1,7 +1,7 @@
 -- The cases of docs/RULES.md, "Cases", P1 to P12 and those that its rules name, as one table: what goes in, and what must come out.
 use Prim.Native.Nat.{ℕ}
 use mathlib.Core.Path.{_≡_}
-use mathlib.Core.List.{List, [], _∷_, _++_, map}
+use mathlib.Core.List.{List, [], _∷_, _++_}
 use lib.ListN.{length, take, replicate}
 use lib.IntN.{pos, negℤ}
 use Rattle.told.specs.Told.{Told, gave, refused}
@@ -11,8 +11,7 @@ use Rattle.signed.specs.Extend.{extendRule}
 use Rattle.gorilla.specs.Format.{codeBits, imageBytes}
 use Rattle.bits.specs.Read.{readRule}
 use Rattle.gorilla.specs.Parser.{read}
-use Rattle.gorilla.specs.Reading.{Pairs, readCode}
-use Rattle.limits.specs.Settings.{roomOf}
+use Rattle.gorilla.specs.Reading.{readCode}
 use Rattle.fresh.specs.Fresh.{freshTable, emptyTable, newTable}
 use Rattle.tracker.specs.declared.Seq.{Seq}
 use Rattle.tracker.specs.declared.Second.{Second}
@@ -22,7 +21,6 @@ use Rattle.tracker.specs.declared.LastRecorded.the-variants.{At}
 use Rattle.lookup.specs.Find.{Partner, partner, nothing, findTs, findSeq}
 use Rattle.lookup.specs.declared.FindOption.{FindOption}
 use Rattle.lookup.specs.declared.FindOption.the-variants.{RoundUp, RoundDown}
-use Rattle.totals.specs.declared.Totals.{Totals}
 use Rattle.totals.specs.declared.Fate.the-variants as fate
 use Rattle.tracker.specs.Rest.{withTotals}
 use Rattle.offers.specs.Offer.{Outcome, recorded, wentBack, tooSoon, pairRefused, counting, offerTo}
@@ -36,65 +34,11 @@ use Rattle.restoring.specs.Restore.{restoreOf, restoreAt}
 use Rattle.text.specs.Ascii.{ascii}
 use Rattle.report.specs.Listing.{listingOf}
 use Rattle.report.specs.Dated.{DatedListing}
 use Rattle.theorems.specs.Alike.{keptIn}
-use Rattle.theorems.specs.DateCases.{DateCases}
-use Rattle.theorems.specs.Run.{Restoring, plain, naming, offered, reloaded, step, ranTo}
-
--- ---- what goes in
-
-abbrev pub second : ℕ → Second
-second s = record { 0 = pos s }
-
-abbrev pub seqNo : ℕ → Seq
-seqNo q = record { 0 = q }
-
--- a pair of a sequence and a second
-abbrev pub pair : ℕ → ℕ → TrackedSeq
-pair seq s = record { seq = seqNo seq; ts = second s }
-
-abbrev pub pairsIn : List TrackedSeq → Pairs
-pairsIn l = record { seqs = map (λ r. r .seq .0) l; secs = map (λ r. r .ts .0) l }
-
--- a lent buffer, and lent arrays of so many places, which hold something already
-abbrev pub buffer : List ℕ
-buffer = replicate 64 0xFF
-
-abbrev pub lent : ℕ → Pairs
-lent n = record { seqs = replicate n 7; secs = replicate n (pos 7) }
-
--- four totals: recorded, went back, too soon, refused
-abbrev pub four : ℕ → ℕ → ℕ → ℕ → Totals
-four r b s f = record { recorded = r; «went_back» = b; «too_soon» = s; refused = f }
-
--- a table with other totals
-abbrev pub totalled : Totals → Table → Table
-totalled n w = record { state = withTotals n (w .state); seqs = w .seqs; secs = w .secs }
-
--- an empty table of this capacity and interval, in arrays of just the room that it needs, after these offers in order
-abbrev pub offeredAll : ℕ → ℕ → List TrackedSeq → Table
-offeredAll capacity interval l =
-    ranTo (record { state = emptyTable capacity interval; seqs = lent (roomOf capacity) .seqs; secs = lent (roomOf capacity) .secs })
-    (map (λ r. offered (r .seq) (r .ts)) l)
-
--- a table that is empty but for one pair, saved strictly and restored so
-abbrev pub offeredAndReloaded : ℕ → TrackedSeq → Restoring → Table
-offeredAndReloaded interval r by =
-    step (offeredAll 8192 interval (r ∷ [])) (reloaded (record { by = by; out = buffer; following = []; seqs = lent 8192 .seqs; secs = lent 8192 .secs }))
-
--- the first n of P8's offers
-abbrev pub firstOf : ℕ → List TrackedSeq
-firstOf n = take n (pair 1 10 ∷ pair 2 20 ∷ pair 3 30 ∷ pair 4 40 ∷ pair 5 50 ∷ [])
-
--- P5's image; its two last bytes of codes end with four and with seven bits of padding
-abbrev pub fifth : ℕ → ℕ → List ℕ
-fifth x y =
-    0x01 ∷ 0x02 ∷ 0x00 ∷ 0x00 ∷ 0x00
-    ∷ 0x00 ∷ 0x00 ∷ 0x00 ∷ 0x02 ∷ 0x00 ∷ 0x00 ∷ 0x00 ∷ 0x00 ∷ 0x00 ∷ 0x00 ∷ 0x00 ∷ 0x64 ∷ 0xC4 ∷ x
-    ∷ 0x00 ∷ 0x00 ∷ 0x00 ∷ 0x02 ∷ 0x00 ∷ 0x00 ∷ 0x00 ∷ 0x00 ∷ 0x00 ∷ 0x00 ∷ 0x00 ∷ 0x00 ∷ 0x9E ∷ y ∷ []
-
--- an image's header, and the same count of its sequences
-abbrev pub begun : ℕ → List ℕ
-begun count = 0x01 ∷ count ∷ 0 ∷ 0 ∷ 0 ∷ 0 ∷ 0 ∷ 0 ∷ count ∷ []
+use Rattle.theorems.specs.Run.{plain, naming, offered, step}
+use Rattle.cases.specs.Given.{second, seqNo, pair, pairsIn, buffer, lent, four, totalled, offeredAll, offeredAndReloaded, firstOf, fifth, begun}
+use Rattle.cases.specs.DateCases.{DateCases}
+use Rattle.cases.specs.HalvingCases.{HalvingCases}
 
 -- ---- what must come out: kinds of cases that are more than one equation, or stand often
 
@@ -300,5 +244,6 @@ pub record Cases : Type 0 where
       × (readRule (0xFF ∷ []) (record { byte = 0; bit = 3 }) 65 ≡ refused (23 ∷ []))
   -- per array 4, 10, 5: a count of 2 for two arrays of one place, with no first value after it, gives 10; with two places, 5, at byte 9
   pub order : DecodeTells 1 (begun 2) (refused (10 ∷ 0 ∷ [])) × DecodeTells 2 (begun 2) (refused (5 ∷ 0 ∷ 9 ∷ 0 ∷ []))
-  -- dates: a table of their own
+  -- dates, and halving: tables of their own
   pub dates : DateCases
+  pub halving : HalvingCases

@@ -1,0 +1,5 @@
+-- The proof of the table in specs/Cases.antt: `cases` in Cases.
+mod Example
+mod DateCases
+mod HalvingCases
+pub mod Cases

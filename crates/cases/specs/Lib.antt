@@ -1,0 +1,4 @@
+pub mod Given
+pub mod DateCases
+pub mod HalvingCases
+pub mod Cases

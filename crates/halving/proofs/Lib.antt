@@ -1,0 +1,7 @@
+-- The proof of the statement in specs/Halving.antt: `halving-hides` in Halving.
+mod Level
+mod Spread
+mod Kept
+mod Asked
+mod Run
+pub mod Halving

@@ -1,0 +1,51 @@
+-- What a table goes through as offers are made to it: which of them are recorded, and how often it is halved.
+use Prim.Native.Nat.{ℕ, suc, _+_}
+use mathlib.Core.Bool.{Bool, cond, _&&_}
+use mathlib.Core.List.{List, [], _∷_, _++_}
+use lib.Dec.{ltb}
+use Rattle.tracker.specs.declared.TrackedSeq.{TrackedSeq}
+use Rattle.offers.specs.Whole.{Table}
+use Rattle.offers.specs.Offer.{offerTo}
+use Rattle.log.specs.Pairs.{recordsOf}
+use Rattle.theorems.specs.Alike.{keptIn}
+use Rattle.theorems.specs.Run.{offered, step, ranTo}
+use Rattle.theorems.specs.Lists.{offersOf}
+use Rattle.theorems.specs.Totals.{wasRecorded}
+
+-- the pairs that a table keeps, in order
+abbrev pub keptPairs : Table → List TrackedSeq
+keptPairs w = recordsOf (keptIn w .seqs) (keptIn w .secs)
+
+-- ---- one offer
+
+-- the table after it
+abbrev pub after : Table → TrackedSeq → Table
+after w r = step w (offered (r .seq) (r .ts))
+
+-- it is told that it was recorded
+abbrev pub records : Table → TrackedSeq → Bool
+records w r = wasRecorded (offerTo w (r .seq) (r .ts))
+
+-- it halves the table: it is recorded, and with it more pairs than the capacity stand
+abbrev pub halves : Table → TrackedSeq → Bool
+halves w r = records w r && ltb (w .state .capacity) (w .state .count + 1)
+
+-- ---- offers one after the other, with those that are skipped or refused
+
+-- the table after them
+abbrev pub now : Table → List TrackedSeq → Table
+now w rs = ranTo w (offersOf rs)
+
+-- those that are recorded, in order
+unfoldable pub recordedOf : Table → List TrackedSeq → List TrackedSeq
+recordedOf w [] = []
+recordedOf w (r ∷ rs) = cond (records w r) (r ∷ recordedOf (after w r) rs) (recordedOf (after w r) rs)
+
+-- all pairs recorded so far: those that the table kept at the start, which are taken as recorded, and those since
+abbrev pub recordedSoFar : Table → List TrackedSeq → List TrackedSeq
+recordedSoFar w rs = keptPairs w ++ recordedOf w rs
+
+-- how often the table was halved
+unfoldable pub halvings : Table → List TrackedSeq → ℕ
+halvings w [] = 0
+halvings w (r ∷ rs) = cond (halves w r) (suc (halvings (after w r) rs)) (halvings (after w r) rs)

@@ -1,0 +1,3 @@
+pub mod History
+pub mod Coarse
+pub mod Halving
