@@ -9,10 +9,10 @@ use Rattle.tracker.specs.declared.TrackedSeq.{TrackedSeq}
 use Rattle.keeping.specs.Keep.{evens}
 use Rattle.log.specs.Pairs.{recordsOf}
 use Rattle.theorems.specs.Run.{step, ranTo}
-use Rattle.halving.specs.History.{recordedOf, halvings}
+use Rattle.halving.specs.History.{recordedOf, halvingsOf}
 use Rattle.halving.specs.Coarse.{pairAt, Places, Coarse}
 use Rattle.cases.specs.Given.{pair, firstOf}
-use Rattle.cases.specs.HalvingCases.{HalvingCases}
+use Rattle.cases.specs.HalvingCases.{past, HalvingCases}
 
 -- the sequence at a place
 seqAt : List TrackedSeq → ℕ → ℕ
@@ -29,18 +29,18 @@ module _ (rec kept : List TrackedSeq) (P : Places rec kept) (some : 0 < length r
   last-is = let f = P .first some in ap (λ r. r .seq .0) (P .each (length kept - 1) (omega (arith, f .0)) .1 ∙ ap (pairAt rec) (P .newest some))
 
 pub halving-cases : HalvingCases
-unfolding seqAt ranTo step recordedOf halvings recordsOf firstFrom lastOr evens
+unfolding seqAt ranTo step recordedOf halvingsOf recordsOf firstFrom lastOr evens
 halving-cases = record {
-  none = (refl, refl, refl);
-  one = (refl, refl, refl);
-  two = (refl, refl, refl);
+  none = refl;
+  one = refl;
+  two = refl;
   asked = (refl, refl);
-  four = ((refl, refl, refl), refl, refl);
-  fresh = (refl, refl, refl);
+  four = (refl, refl, refl);
+  fresh = refl;
   counts = (refl, refl, refl, refl, refl);
-  odd = ((refl, refl, refl), λ c. omega (arith, last-is (firstOf 2) (pair 1 10 ∷ []) (c .places) (omega arith)));
-  odd-order = (refl, refl, refl);
-  zero = ((refl, refl, refl), λ c. omega (arith, last-is (firstOf 2) (pair 1 10 ∷ []) (c .places) (omega arith)));
+  odd = (refl, λ c. omega (arith, last-is (firstOf 2) (pair 1 10 ∷ []) (c .places) (omega arith)));
+  odd-order = refl;
+  zero = (refl, λ c. omega (arith, last-is (firstOf 2) (pair 1 10 ∷ []) (c .places) (omega arith)));
   excluded = (
     λ c. omega (arith, first-is (firstOf 5) (pair 2 20 ∷ pair 4 40 ∷ []) (c .places) (omega arith)),
     λ c. omega (arith, last-is (firstOf 5) (pair 1 10 ∷ pair 3 30 ∷ []) (c .places) (omega arith)),
@@ -49,7 +49,7 @@ halving-cases = record {
   narrower = λ c. near-first c (c .places .at 1) refl (omega (arith, c .near 0 (omega arith), c .places .first (omega arith) .1));
 }
   where
-    near-first : (c : Coarse 1 (firstOf 7) (pair 1 10 ∷ pair 5 50 ∷ pair 7 70 ∷ [])) (x : ℕ) → c .places .at 1 ≡ x → x ≤ 2 → ⊥
+    near-first : (c : Coarse (past 4 1 (firstOf 7) (pair 1 10 ∷ pair 5 50 ∷ pair 7 70 ∷ []))) (x : ℕ) → c .places .at 1 ≡ x → x ≤ 2 → ⊥
     near-first c x e h = there x h (ap (λ r. r .seq .0) (c .places .each 1 (omega arith) .1) ∙ ap (seqAt (firstOf 7)) e)
       where
         there : (x : ℕ) → x ≤ 2 → 5 ≡ seqAt (firstOf 7) x → ⊥

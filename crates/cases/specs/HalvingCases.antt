@@ -7,26 +7,30 @@ use Rattle.tracker.specs.declared.TrackedSeq.{TrackedSeq}
 use Rattle.lookup.specs.Find.{partner}
 use Rattle.lookup.specs.declared.FindOption.the-variants.{RoundUp, RoundDown}
 use Rattle.offers.specs.Whole.{Table}
-use Rattle.halving.specs.History.{keptPairs, now, recordedSoFar, halvings}
-use Rattle.halving.specs.Coarse.{Coarse}
-use Rattle.halving.specs.Halving.{halvingsAt, findTsIn}
+use Rattle.halving.specs.History.{now, History, historyOf}
+use Rattle.halving.specs.Coarse.{Coarse, halvingsAt}
+use Rattle.halving.specs.Halving.{findTsIn}
 use Rattle.cases.specs.Given.{second, seqNo, pair, offeredAll, firstOf}
 
--- these offers to a table make so many halvings, and then these pairs are recorded, and these kept
-abbrev pub Makes : Table → List TrackedSeq → ℕ → List TrackedSeq → List TrackedSeq → Type 0
-Makes w rs k recorded kept = (halvings w rs ≡ k) × (recordedSoFar w rs ≡ recorded) × (keptPairs (now w rs) ≡ kept)
+-- so many halvings, these pairs recorded, and these kept
+abbrev pub past : ℕ → ℕ → List TrackedSeq → List TrackedSeq → History
+past capacity k recorded kept = record { capacity = capacity; halvings = k; recorded = recorded; kept = kept }
 
 -- an empty table of this capacity, at interval 0
 abbrev pub empty : ℕ → Table
 empty capacity = offeredAll capacity 0 []
 
+-- what comes of these offers to it
+abbrev pub Makes : ℕ → List TrackedSeq → ℕ → List TrackedSeq → List TrackedSeq → Type 0
+Makes capacity rs k recorded kept = historyOf (empty capacity) rs ≡ past capacity k recorded kept
+
 pub record HalvingCases : Type 0 where
   -- capacity 4: up to four pairs there is no halving
-  pub none : Makes (empty 4) (firstOf 4) 0 (firstOf 4) (firstOf 4)
+  pub none : Makes 4 (firstOf 4) 0 (firstOf 4) (firstOf 4)
   -- the fifth pair makes one, P8's; what went back, (3,19), and what is refused with 17, (3,45), are not recorded
-  pub one : Makes (empty 4) (pair 1 10 ∷ pair 2 20 ∷ pair 3 19 ∷ pair 3 30 ∷ pair 4 40 ∷ pair 3 45 ∷ pair 5 50 ∷ []) 1 (firstOf 5) (pair 1 10 ∷ pair 3 30 ∷ pair 5 50 ∷ [])
+  pub one : Makes 4 (pair 1 10 ∷ pair 2 20 ∷ pair 3 19 ∷ pair 3 30 ∷ pair 4 40 ∷ pair 3 45 ∷ pair 5 50 ∷ []) 1 (firstOf 5) (pair 1 10 ∷ pair 3 30 ∷ pair 5 50 ∷ [])
   -- the seventh a second one: the older two of those kept stand 2^2 recorded pairs apart, and the newest two 2
-  pub two : Makes (empty 4) (firstOf 7) 2 (firstOf 7) (pair 1 10 ∷ pair 5 50 ∷ pair 7 70 ∷ [])
+  pub two : Makes 4 (firstOf 7) 2 (firstOf 7) (pair 1 10 ∷ pair 5 50 ∷ pair 7 70 ∷ [])
   -- there (4,40), which is not kept, is answered by (1,10), three recorded pairs before it, and by (5,50), one after it
   pub asked :
       (findTsIn (now (empty 4) (firstOf 7)) (seqNo 4) RoundDown ≡ gave (partner (second 10)))
@@ -34,22 +38,24 @@ pub record HalvingCases : Type 0 where
   -- the eleventh pair makes the fourth halving; (8,80), three recorded pairs back, is answered rounding up by the next one, and rounding down by the first pair, seven before it: how far back it
   -- lies itself is no bound there
   pub four :
-      Makes (empty 4) (firstOf 11) 4 (firstOf 11) (pair 1 10 ∷ pair 9 90 ∷ pair 11 110 ∷ [])
+      Makes 4 (firstOf 11) 4 (firstOf 11) (pair 1 10 ∷ pair 9 90 ∷ pair 11 110 ∷ [])
       × (findTsIn (now (empty 4) (firstOf 11)) (seqNo 8) RoundUp ≡ gave (partner (second 90)))
       × (findTsIn (now (empty 4) (firstOf 11)) (seqNo 8) RoundDown ≡ gave (partner (second 10)))
   -- a fresh count from P8's table: its three pairs are taken as recorded, and the fifth recorded pair makes the first halving
-  pub fresh : Makes (offeredAll 4 0 (firstOf 5)) (pair 6 60 ∷ pair 7 70 ∷ []) 1 (pair 1 10 ∷ pair 3 30 ∷ pair 5 50 ∷ pair 6 60 ∷ pair 7 70 ∷ []) (pair 1 10 ∷ pair 5 50 ∷ pair 7 70 ∷ [])
+  pub fresh :
+      historyOf (offeredAll 4 0 (firstOf 5)) (pair 6 60 ∷ pair 7 70 ∷ [])
+      ≡ past 4 1 (pair 1 10 ∷ pair 3 30 ∷ pair 5 50 ∷ pair 6 60 ∷ pair 7 70 ∷ []) (pair 1 10 ∷ pair 5 50 ∷ pair 7 70 ∷ [])
   -- at capacity 8,192: none with 8,192 recorded pairs, one with 8,193 to 12,288, two from 12,289 on, 257 with 1,056,769
   pub counts :
       (halvingsAt 8192 8192 ≡ 0) × (halvingsAt 8192 8193 ≡ 1) × (halvingsAt 8192 12288 ≡ 1) × (halvingsAt 8192 12289 ≡ 2) × (halvingsAt 8192 1056769 ≡ 257)
   -- why odd capacities are left out: at capacity 1 the second pair makes a halving that drops itself, the newest
-  pub odd : Makes (empty 1) (firstOf 2) 1 (firstOf 2) (pair 1 10 ∷ []) × (Coarse 1 (firstOf 2) (pair 1 10 ∷ []) → ⊥)
+  pub odd : Makes 1 (firstOf 2) 1 (firstOf 2) (pair 1 10 ∷ []) × (Coarse (past 1 1 (firstOf 2) (pair 1 10 ∷ [])) → ⊥)
   -- and at capacity 3, P9's, a sequence below the newest recorded one is then recorded
-  pub odd-order : Makes (empty 3) (firstOf 4 ++ (pair 3 45 ∷ [])) 1 (firstOf 4 ++ (pair 3 45 ∷ [])) (pair 1 10 ∷ pair 3 30 ∷ pair 3 45 ∷ [])
+  pub odd-order : Makes 3 (firstOf 4 ++ (pair 3 45 ∷ [])) 1 (firstOf 4 ++ (pair 3 45 ∷ [])) (pair 1 10 ∷ pair 3 30 ∷ pair 3 45 ∷ [])
   -- and why 0 is: each pair makes a halving, and the newest is dropped
-  pub zero : Makes (empty 0) (firstOf 2) 2 (firstOf 2) (pair 1 10 ∷ []) × (Coarse 2 (firstOf 2) (pair 1 10 ∷ []) → ⊥)
+  pub zero : Makes 0 (firstOf 2) 2 (firstOf 2) (pair 1 10 ∷ []) × (Coarse (past 0 2 (firstOf 2) (pair 1 10 ∷ [])) → ⊥)
   -- what may not be kept of five recorded pairs after one halving: the odd positions; the even ones without the newest; the first and the newest alone, four apart
   pub excluded :
-      (Coarse 1 (firstOf 5) (pair 2 20 ∷ pair 4 40 ∷ []) → ⊥) × (Coarse 1 (firstOf 5) (pair 1 10 ∷ pair 3 30 ∷ []) → ⊥) × (Coarse 1 (firstOf 5) (pair 1 10 ∷ pair 5 50 ∷ []) → ⊥)
+      (Coarse (past 4 1 (firstOf 5) (pair 2 20 ∷ pair 4 40 ∷ [])) → ⊥) × (Coarse (past 4 1 (firstOf 5) (pair 1 10 ∷ pair 3 30 ∷ [])) → ⊥) × (Coarse (past 4 1 (firstOf 5) (pair 1 10 ∷ pair 5 50 ∷ [])) → ⊥)
   -- 2^(k-1) is too narrow: what two halvings keep of seven pairs stands further apart than 2
-  pub narrower : Coarse 1 (firstOf 7) (pair 1 10 ∷ pair 5 50 ∷ pair 7 70 ∷ []) → ⊥
+  pub narrower : Coarse (past 4 1 (firstOf 7) (pair 1 10 ∷ pair 5 50 ∷ pair 7 70 ∷ [])) → ⊥

@@ -19,8 +19,9 @@ use Rattle.order.proofs.Order.{Order, itself}
 use Rattle.tracker.specs.declared.TrackedSeq.{TrackedSeq}
 use Rattle.lookup.specs.declared.FindOption.{FindOption}
 use Rattle.lookup.specs.declared.FindOption.the-variants.{RoundUp, RoundDown}
+use Rattle.halving.specs.History.{History}
 use Rattle.halving.specs.Coarse.{pairAt, Places}
-use Rattle.halving.specs.Halving.{back, Close, CloseBy, named}
+use Rattle.halving.specs.Asked.{Close, named}
 use Rattle.halving.proofs.Level.{level, level-step, bound, bound-falls, bound-most}
 use Rattle.halving.proofs.Spread.{none, Spread, later, last-is, near}
 
@@ -91,8 +92,12 @@ module _ (half : ℕ) (some : 0 < half) (k : ℕ) {rec kept : List TrackedSeq} (
   abbrev at : ℕ → ℕ
   at = S .places .at
 
+  -- how far back a pair lies
+  abbrev aback : ℕ → ℕ
+  aback x = length rec - 1 - x
+
   -- at most j halvings came after a pair that lies at most j halves of the capacity back
-  aged : (x j : ℕ) → back rec x ≤ j * half → bound half some k x ≤ 2 ^ j
+  aged : (x j : ℕ) → aback x ≤ j * half → bound half some k x ≤ 2 ^ j
   aged x j h = bound-most half some k x j (omega (arith, levelled, level-step half some (x + 1) (length rec) j (omega arith)))
 
   -- a bound of two neighbours, by what it is for the older
@@ -102,7 +107,7 @@ module _ (half : ℕ) (some : 0 < half) (k : ℕ) {rec kept : List TrackedSeq} (
   pub near-all : (i : ℕ) → i + 1 < length kept → at (i + 1) ≤ at i + 2 ^ k
   near-all i h = omega (arith, near-most i h, bound-most half some k (at i) k (omega arith))
 
-  pub near-aged : (i j : ℕ) → i + 1 < length kept → back rec (at i) ≤ j * half → at (i + 1) ≤ at i + 2 ^ j
+  pub near-aged : (i j : ℕ) → i + 1 < length kept → aback (at i) ≤ j * half → at (i + 1) ≤ at i + 2 ^ j
   near-aged i j h b = omega (arith, near-most i h, aged (at i) j b)
 
   -- the last kept pair not after y, and y
@@ -114,11 +119,11 @@ module _ (half : ℕ) (some : 0 < half) (k : ℕ) {rec kept : List TrackedSeq} (
         (λ (h : length kept ≤ i + 1). omega (arith, last-is (S .places) i l h, one-le-pow b 2 (omega arith)))
         (below-or (i + 1) (length kept))
 
-    pub down-close : (capacity : ℕ) → capacity / 2 ≡ half → Close capacity k rec (at i) y
+    pub down-close : (capacity : ℕ) → capacity / 2 ≡ half → Close (record { capacity = capacity; halvings = k; recorded = rec; kept = kept }) (at i) y
     down-close capacity two = (from, before-next k (near-all i), λ j b. before-next j (λ h. near-aged i j h (rw two at b)))
 
     -- where y, and the 2^j - 1 recorded before it, lie at most j halves of the capacity back
-    pub down-aged : (j : ℕ) → back rec y + 2 ^ j ≤ j * half + 1 → y < at i + 2 ^ j
+    pub down-aged : (j : ℕ) → aback y + 2 ^ j ≤ j * half + 1 → y < at i + 2 ^ j
     down-aged j b =
         let one = one-le-pow j 2 (omega arith) in
         ⊎-elim (λ (h : y < 2 ^ j). omega arith)
@@ -136,7 +141,8 @@ module _ (half : ℕ) (some : 0 < half) (k : ℕ) {rec kept : List TrackedSeq} (
             (below-or i m)
 
   -- the first kept pair not before y
-  pub up-close : (i y : ℕ) → y < length rec → i < length kept → y ≤ at i → ((j : ℕ) → j < length kept → y ≤ at j → i ≤ j) → (capacity : ℕ) → capacity / 2 ≡ half → Close capacity k rec y (at i)
+  pub up-close : (i y : ℕ) → y < length rec → i < length kept → y ≤ at i → ((j : ℕ) → j < length kept → y ≤ at j → i ≤ j) → (capacity : ℕ) → capacity / 2 ≡ half
+      → Close (record { capacity = capacity; halvings = k; recorded = rec; kept = kept }) y (at i)
   up-close i y inside l from least capacity two = (from, omega (arith, short, bound-most half some k y k (omega arith)), λ j b. omega (arith, short, aged y j (rw two at b)))
     where
       short : at i < y + bound half some k y

@@ -40,12 +40,13 @@ use Rattle.theorems.specs.Totals.{wasRecorded, howMany}
 use Rattle.theorems.proofs.Sound.{empty-good}
 use Rattle.theorems.proofs.Restored.{restored-sound, restored-kept}
 use Rattle.theorems.proofs.Totals.{totals-count, made-zero, restored-zero}
-use Rattle.halving.specs.History.{keptPairs, after, records, halves, now, recordedOf, recordedSoFar, halvings}
-use Rattle.halving.specs.Coarse.{pairAt, Places, apart, Coarse}
-use Rattle.halving.specs.Halving.{halvingsAt, back, Close, CloseBy, named, Answers, AsksSeq, AsksSecond, EvenFrom2, Halved, HalvingHides}
+use Rattle.halving.specs.History.{keptPairs, after, records, halves, now, recordedOf, halvingsOf, History, historyOf}
+use Rattle.halving.specs.Coarse.{pairAt, Places, halvingsAt}
+use Rattle.halving.specs.Asked.{Close, CloseBy, named, Answers}
+use Rattle.halving.specs.Halving.{findTsIn, findSeqIn, Hides, EvenFrom2, FromEmpty, HalvingHides}
 use Rattle.halving.proofs.Level.{level, level-is, level-mono, bound, bound-most}
 use Rattle.halving.proofs.Spread.{none, Spread}
-use Rattle.halving.proofs.Kept.{records-seqs, records-secs, kept-count, kept-same, kept-at, few, kept-recorded}
+use Rattle.halving.proofs.Kept.{records-seqs, records-secs, kept-count, kept-fit, kept-same, kept-at, few, kept-recorded}
 use Rattle.halving.proofs.Asked.{InOrder, near-most, near-all, near-aged, down-close, down-aged, up-close, alike, found, found-down, found-up}
 use Rattle.halving.proofs.Run.{Stands, levelled, Holds, holds-first, holds-now}
 
@@ -74,7 +75,7 @@ recorded-number w (r ∷ rs) = go (records w r) (recordedOf (after w r) rs) (rec
     go true l e = ap suc e
     go false l e = e
 
-counted-recorded : (w : Table) → checkIn w ≡ gave tt → (rs : List TrackedSeq) → length (recordedSoFar w rs) + w .state .totals .recorded ≡ w .state .count + now w rs .state .totals .recorded
+counted-recorded : (w : Table) → checkIn w ≡ gave tt → (rs : List TrackedSeq) → length (keptPairs w ++ recordedOf w rs) + w .state .totals .recorded ≡ w .state .count + now w rs .state .totals .recorded
 counted-recorded w good rs = omega (arith, length-append (keptPairs w) (recordedOf w rs), kept-count w good, recorded-number w rs, totals-count .over-offers w rs .recorded-are)
 
 -- ---- lookups, as they go by the kept pairs
@@ -109,38 +110,40 @@ int-same (negsuc a) (pos b) e f = absurd (false≢true (sym e))
 int-same (negsuc a) (negsuc b) e f = ap negsuc (nat-same a b f e)
 
 module _ (half : ℕ) (some : 0 < half) (k : ℕ) (rec kept : List TrackedSeq) (S : Spread (bound half some k) rec kept) (l : level half some (length rec) ≡ k) (capacity : ℕ) (two : capacity / 2 ≡ half) where
-  answered : {K A : Type 0} (lt : K → K → Bool) (O : Order lt) (key : TrackedSeq → K) (value : TrackedSeq → A) → ((a b : K) → lt a b ≡ false → lt b a ≡ false → a ≡ b) → InOrder lt key rec
+  answered : {K A : Type 0} (lt : K → K → Bool) (O : Order lt) (key : TrackedSeq → K) (value : TrackedSeq → A) → InOrder lt key rec
       → (x : K) (find : FindOption → Told (Partner A)) → ((opt : FindOption) → find opt ≡ gave (standing (λ i. value (pairAt kept i)) (length kept) (named lt (key none) key opt kept x)))
-      → Answers lt (key none) key value capacity k rec kept (S .places) x find
-  answered lt O key value same sorted x find finds = record {
+      → Answers lt (key none) key value (record { capacity = capacity; halvings = k; recorded = rec; kept = kept }) (S .places) x find
+  answered lt O key value sorted x find finds = record {
     from-kept = finds;
     nothing-alike = alike lt O key (S .places) x sorted;
     close = close;
     close-down = λ j h b. let f = found-down lt O key (S .places) x sorted h in down-aged half some k S l _ _ (f .0) h (f .1) (f .2) j (rw two at b);
-    of-recorded = found lt O key (S .places) x sorted same;
   }
     where
       close : (opt : FindOption) → named lt (key none) key opt rec x < length rec
-          → (named lt (key none) key opt kept x < length kept) × CloseBy opt (Close capacity k rec) (S .places .at (named lt (key none) key opt kept x)) (named lt (key none) key opt rec x)
+          → (named lt (key none) key opt kept x < length kept)
+          × CloseBy opt (record { capacity = capacity; halvings = k; recorded = rec; kept = kept }) (S .places .at (named lt (key none) key opt kept x)) (named lt (key none) key opt rec x)
       close RoundDown h = let f = found-down lt O key (S .places) x sorted h in (f .0, down-close half some k S l _ _ (f .0) h (f .1) (f .2) capacity two)
       close RoundUp h = let f = found-up lt O key (S .places) x sorted h in (f .0, up-close half some k S l _ _ h (f .0) (f .1) (f .2) capacity two)
 
--- of a recorded key, found by its number, the pair that would answer among all recorded ones is one of that key, and the one that answers is near it
-of-recorded : {K A : Type 0} (lt : K → K → Bool) (d : K) (key : TrackedSeq → K) (value : TrackedSeq → A) (capacity k : ℕ) (rec kept : List TrackedSeq) (P : Places rec kept) (y : ℕ) (find : FindOption → Told (Partner A))
-    → y < length rec → Answers lt d key value capacity k rec kept P (key (pairAt rec y)) find → (opt : FindOption)
-    → (i z : ℕ) × (i < length kept) × (find opt ≡ gave (partner (value (pairAt kept i)))) × (z < length rec) × (key (pairAt rec z) ≡ key (pairAt rec y)) × (z < P .at i + 2 ^ k) × (P .at i < z + 2 ^ k)
-of-recorded lt d key value capacity k rec kept P y find l N opt =
-    let x = key (pairAt rec y) in
-    let i = named lt d key opt kept x in
-    let z = named lt d key opt rec x in
-    let f = N .of-recorded opt y l refl in
-    let c = N .close opt (f .0) in
-    let n = near opt (c .1) in
-    (i, z, c .0, N .from-kept opt ∙ rw (lt-ltb i (length kept) (c .0)), f .0, f .1, n .0, n .1)
-  where
-    near : (opt : FindOption) {i z : ℕ} → CloseBy opt (Close capacity k rec) (P .at i) z → (z < P .at i + 2 ^ k) × (P .at i < z + 2 ^ k)
-    near RoundDown c = (c .1, omega (arith, c .0, c .1, one-le-pow k 2 (omega arith)))
-    near RoundUp c = (omega (arith, c .0, c .1, one-le-pow k 2 (omega arith)), c .1)
+-- of a recorded key the pair that would answer among all recorded ones is one of that key, and the one that answers is near it
+module _ {K A : Type 0} (lt : K → K → Bool) (O : Order lt) (key : TrackedSeq → K) (value : TrackedSeq → A) (same : (a b : K) → lt a b ≡ false → lt b a ≡ false → a ≡ b) where
+  asked-recorded : (h : History) (P : Places (h .recorded) (h .kept)) → InOrder lt key (h .recorded) → (y : ℕ) (find : FindOption → Told (Partner A)) → y < length (h .recorded)
+      → Answers lt (key none) key value h P (key (pairAt (h .recorded) y)) find → (opt : FindOption)
+      → (i z : ℕ) × (i < length (h .kept)) × (find opt ≡ gave (partner (value (pairAt (h .kept) i)))) × (z < length (h .recorded)) × (key (pairAt (h .recorded) z) ≡ key (pairAt (h .recorded) y))
+      × (z < P .at i + 2 ^ h .halvings) × (P .at i < z + 2 ^ h .halvings)
+  asked-recorded h P sorted y find l N opt =
+      let x = key (pairAt (h .recorded) y) in
+      let i = named lt (key none) key opt (h .kept) x in
+      let z = named lt (key none) key opt (h .recorded) x in
+      let f = found lt O key P x sorted same opt y l refl in
+      let c = N .close opt (f .0) in
+      let n = near opt (c .1) in
+      (i, z, c .0, N .from-kept opt ∙ rw (lt-ltb i (length (h .kept)) (c .0)), f .0, f .1, n .0, n .1)
+    where
+      near : (opt : FindOption) {i z : ℕ} → CloseBy opt h (P .at i) z → (z < P .at i + 2 ^ h .halvings) × (P .at i < z + 2 ^ h .halvings)
+      near RoundDown c = (c .1, omega (arith, c .0, c .1, one-le-pow (h .halvings) 2 (omega arith)))
+      near RoundUp c = (omega (arith, c .0, c .1, one-le-pow (h .halvings) 2 (omega arith)), c .1)
 
 -- a number as a sequence, and as a second
 abbrev seqNo : ℕ → Seq
@@ -153,81 +156,95 @@ second s = record { 0 = s }
 
 module _ (w : Table) (good : checkIn w ≡ gave tt) (half : ℕ) (some : 0 < half) (even : w .state .capacity ≡ half + half) where
   -- what holds after any offers
-  held : (rs : List TrackedSeq) → Holds half some (now w rs) (recordedSoFar w rs) (halvings w rs)
-  held rs = rw (zero-add (halvings w rs)) at (holds-now half some w (keptPairs w) 0 rs (holds-first half some w good even))
+  held : (rs : List TrackedSeq) → Holds half some (now w rs) (keptPairs w ++ recordedOf w rs) (halvingsOf w rs)
+  held rs = rw (zero-add (halvingsOf w rs)) at (holds-now half some w (keptPairs w) 0 rs (holds-first half some w good even))
 
-  level-now : (rs : List TrackedSeq) → level half some (length (recordedSoFar w rs)) ≡ halvings w rs
+  level-now : (rs : List TrackedSeq) → level half some (length (keptPairs w ++ recordedOf w rs)) ≡ halvingsOf w rs
   level-now rs =
-      levelled half some (halvings w rs) (recordedSoFar w rs) (keptPairs (now w rs)) (held rs .stands)
+      levelled half some (halvingsOf w rs) (keptPairs w ++ recordedOf w rs) (keptPairs (now w rs)) (held rs .stands)
       (omega (arith, kept-count (now w rs) (held rs .good), few (now w rs) (held rs .good) half some (held rs .even)))
 
   two : w .state .capacity / 2 ≡ half
   two = omega arith
 
-  asks-seq : (rs : List TrackedSeq) (seq : Seq) → AsksSeq w rs (held rs .stands .spread .places) seq
-  asks-seq rs seq =
-      answered half some (halvings w rs) (recordedSoFar w rs) (keptPairs (now w rs)) (held rs .stands .spread) (level-now rs) (w .state .capacity) two
-      ltb nat-order (λ r. r .seq .0) (λ r. r .ts) nat-same (held rs .by-seqs) (seq .0) _ (by-seqs (now w rs) (held rs .good) seq)
+  module _ (rs : List TrackedSeq) where
+    abbrev spread : Spread (bound half some (halvingsOf w rs)) (keptPairs w ++ recordedOf w rs) (keptPairs (now w rs))
+    spread = held rs .stands .spread
 
-  asks-second : (rs : List TrackedSeq) (ts : Second) → AsksSecond w rs (held rs .stands .spread .places) ts
-  asks-second rs ts =
-      answered half some (halvings w rs) (recordedSoFar w rs) (keptPairs (now w rs)) (held rs .stands .spread) (level-now rs) (w .state .capacity) two
-      ltZ int-order (λ r. r .ts .0) (λ r. r .seq) int-same (held rs .by-secs) (ts .0) _ (by-secs (now w rs) (held rs .good) ts)
+    asks-seq : (seq : Seq) → Answers ltb 0 (λ r. r .seq .0) (λ r. r .ts) (historyOf w rs) (spread .places) (seq .0) (findTsIn (now w rs) seq)
+    asks-seq seq =
+        answered half some (halvingsOf w rs) (keptPairs w ++ recordedOf w rs) (keptPairs (now w rs)) spread (level-now rs) (w .state .capacity) two
+        ltb nat-order (λ r. r .seq .0) (λ r. r .ts) (held rs .by-seqs) (seq .0) _ (by-seqs (now w rs) (held rs .good) seq)
 
-  halved : (rs : List TrackedSeq) → Halved w rs
-  halved rs =
-      let k = halvings w rs in
-      let rec = recordedSoFar w rs in
-      let kept = keptPairs (now w rs) in
-      let S = held rs .stands .spread in
-      let l = level-now rs in
-      let at = S .places .at in
-      record {
-        coarse = record { places = S .places; near = λ i h. omega (arith, near-all half some k S l i h) };
-        how-many = sym (ap (λ c. halvingsAt c (length rec)) even ∙ level-is half some (length rec) ∙ l);
-        how-many-recorded = counted-recorded w good rs;
-        dropped = rw two (held rs .stands .counted);
-        since = λ before later e i h b.
-            omega (arith, near-most half some k S l i h, bound-most half some k (at i) (k - halvings w before) (omega (arith, level-now before, level-mono half some (length (recordedSoFar w before)) (at i + 1) b)));
-        by-age = λ i j h b. omega (arith, near-aged half some k S l i j h (rw two at b));
-        by-seq = asks-seq rs;
-        by-second = asks-second rs;
-        recorded-seq = λ y opt h.
-            let (i, z, a, b, c, d, e, f) = of-recorded ltb 0 (λ r. r .seq .0) (λ r. r .ts) (w .state .capacity) k rec kept (S .places) y _ h (asks-seq rs (pairAt rec y .seq)) opt in
-            (i, z, a, b, c, ap seqNo d, e, f);
-        recorded-second = λ y opt h.
-            let (i, z, a, b, c, d, e, f) = of-recorded ltZ (pos 0) (λ r. r .ts .0) (λ r. r .seq) (w .state .capacity) k rec kept (S .places) y _ h (asks-second rs (pairAt rec y .ts)) opt in
-            (i, z, a, b, c, ap second d, e, f);
-      }
+    asks-second : (ts : Second) → Answers ltZ (pos 0) (λ r. r .ts .0) (λ r. r .seq) (historyOf w rs) (spread .places) (ts .0) (findSeqIn (now w rs) ts)
+    asks-second ts =
+        answered half some (halvingsOf w rs) (keptPairs w ++ recordedOf w rs) (keptPairs (now w rs)) spread (level-now rs) (w .state .capacity) two
+        ltZ int-order (λ r. r .ts .0) (λ r. r .seq) (held rs .by-secs) (ts .0) _ (by-secs (now w rs) (held rs .good) ts)
 
-from-any : (w : Table) → checkIn w ≡ gave tt → EvenFrom2 (w .state .capacity) → (rs : List TrackedSeq) → Halved w rs
-from-any w good (half, even, some) rs = halved w good half some even rs
+    hides : Hides w rs
+    hides =
+        let k = halvingsOf w rs in
+        let h = historyOf w rs in
+        let l = level-now rs in
+        let at = spread .places .at in
+        record {
+          halved = record {
+            coarse = record { places = spread .places; near = λ i b. omega (arith, near-all half some k spread l i b) };
+            how-many = sym (ap (λ c. halvingsAt c (length (h .recorded))) even ∙ level-is half some (length (h .recorded)) ∙ l);
+            dropped = rw two (held rs .stands .counted);
+            by-age = λ i j b a. omega (arith, near-aged half some k spread l i j b (rw two at a));
+          };
+          since = λ before later e i b a.
+              omega (
+                arith,
+                near-most half some k spread l i b,
+                bound-most half some k (at i) (k - halvingsOf w before) (omega (arith, level-now before, level-mono half some (length (historyOf w before .recorded)) (at i + 1) a)),
+              );
+          by-total = counted-recorded w good rs;
+          by-seq = asks-seq;
+          by-second = asks-second;
+          recorded-seq = λ y opt b.
+              let (i, z, c, d, e, f, m, n) = asked-recorded ltb nat-order (λ r. r .seq .0) (λ r. r .ts) nat-same h (spread .places) (held rs .by-seqs) y _ b (asks-seq (pairAt (h .recorded) y .seq)) opt in
+              (i, z, c, d, e, ap seqNo f, m, n);
+          recorded-second = λ y opt b.
+              let (i, z, c, d, e, f, m, n) = asked-recorded ltZ int-order (λ r. r .ts .0) (λ r. r .seq) int-same h (spread .places) (held rs .by-secs) y _ b (asks-second (pairAt (h .recorded) y .ts)) opt in
+              (i, z, c, d, e, ap second f, m, n);
+        }
 
--- from totals of 0 the total of recorded offers and the pairs at the start are the recorded pairs
-from-zero : (w : Table) (rs : List TrackedSeq) → w .state .totals .recorded ≡ 0 → Halved w rs → halvings w rs ≡ halvingsAt (w .state .capacity) (w .state .count + now w rs .state .totals .recorded)
-from-zero w rs z h = let e : length (recordedSoFar w rs) ≡ w .state .count + now w rs .state .totals .recorded = omega (arith, h .how-many-recorded) in h .how-many ∙ ap (halvingsAt (w .state .capacity)) e
+from-any : (w : Table) → checkIn w ≡ gave tt → EvenFrom2 (w .state .capacity) → (rs : List TrackedSeq) → Hides w rs
+from-any w good (half, even, some) rs = hides w good half some even rs
 
-from-made : (capacity interval : ℕ) (t : SequenceTracker) (seqs : List ℕ) (secs : List ℤ) → EvenFrom2 capacity → configOf capacity interval ≡ gave t
-    → capacity ≤ length seqs → capacity ≤ length secs
-    → (rs : List TrackedSeq)
-    → Halved (whole t seqs secs) rs × (recordedSoFar (whole t seqs secs) rs ≡ recordedOf (whole t seqs secs) rs)
-    × (halvings (whole t seqs secs) rs ≡ halvingsAt capacity (now (whole t seqs secs) rs .state .totals .recorded))
+-- from totals of 0 the pairs at the start and the total of recorded offers are the recorded pairs
+from-zero : (w : Table) (rs : List TrackedSeq) → w .state .totals .recorded ≡ 0 → Hides w rs → halvingsOf w rs ≡ halvingsAt (w .state .capacity) (w .state .count + now w rs .state .totals .recorded)
+from-zero w rs z H =
+    let e : length (historyOf w rs .recorded) ≡ w .state .count + now w rs .state .totals .recorded = omega (arith, H .by-total) in
+    H .halved .how-many ∙ ap (halvingsAt (w .state .capacity)) e
+
+from-empty : (capacity interval : ℕ) (t : SequenceTracker) (seqs : List ℕ) (secs : List ℤ) → configOf capacity interval ≡ gave t → EvenFrom2 capacity
+    → capacity ≤ length seqs → capacity ≤ length secs → (rs : List TrackedSeq) → FromEmpty capacity (whole t seqs secs) rs
 unfolding recordsOf
-from-made capacity interval t seqs secs (half, even, some) told a b rs =
+from-empty capacity interval t seqs secs told (half, even, some) a b rs =
     let p = passed (badSettings capacity interval) (15 ∷ []) (gave (emptyTable capacity interval)) t told in
     let room : roomOf capacity ≡ capacity = rw (ne-eqb capacity 0 (λ z. omega arith)) in
     let w = whole (emptyTable capacity interval) seqs secs in
     let H = from-any w (empty-good capacity interval seqs secs (p .0) (rw room a) (rw room b)) (half, even, some) rs in
-    rw (← same-gift (p .1)) (H, refl, from-zero w rs refl H ∙ ap (halvingsAt capacity) (zero-add _))
+    rw (← same-gift (p .1)) (record { hides = H; all-recorded = refl; by-total = from-zero w rs refl H ∙ ap (halvingsAt capacity) (zero-add _) })
 
 pub halving-hides : HalvingHides
 halving-hides = record {
   one-pair = one-pair;
   from-any = from-any;
-  from-made = from-made;
+  from-empty = from-empty;
   from-restored = λ interval bytes seqs seqs′ secs secs′ t h rs.
+      let w = whole t seqs′ secs′ in
       let S = restored-sound interval bytes seqs seqs′ secs secs′ t h in
-      let H = from-any (whole t seqs′ secs′) (S .good) (4096, S .capacity, omega arith) rs in
-      let z = ap (λ n. n .recorded) (restored-zero interval bytes seqs secs t (sym (h .0))) in
-      (H, ap (λ p. recordsOf (p .seqs) (p .secs) ++ recordedOf (whole t seqs′ secs′) rs) (restored-kept interval bytes seqs seqs′ secs secs′ t h), from-zero (whole t seqs′ secs′) rs z H ∙ ap (λ c. halvingsAt c (t .count + now (whole t seqs′ secs′) rs .state .totals .recorded)) (S .capacity));
+      let H = from-any w (S .good) (4096, S .capacity, omega arith) rs in
+      let kept = restored-kept interval bytes seqs seqs′ secs secs′ t h in
+      let zero = ap (λ n. n .recorded) (restored-zero interval bytes seqs secs t (sym (h .0))) in
+      let count : t .count ≡ length (pairsRead (readTable bytes) .seqs) = sym (kept-fit w (S .good) .0) ∙ ap (λ p. length (p .seqs)) kept in
+      record {
+        hides = H;
+        all-recorded = ap (λ p. recordsOf (p .seqs) (p .secs) ++ recordedOf w rs) kept;
+        by-total = from-zero w rs zero H ∙ ap (λ c. halvingsAt c (t .count + now w rs .state .totals .recorded)) (S .capacity) ∙ ap (λ n. halvingsAt 8192 (n + now w rs .state .totals .recorded)) count;
+      };
 }

@@ -6,7 +6,7 @@ use native.Mathlib.Nat.{le-trans, one-le-pow, two-pow-succ, pow-le-pow-right, le
 use native.Mathlib.Omega.{arith}
 use borrow.Author.Tests.{le-leb, lt-leb}
 use Rattle.order.proofs.Bools.{below-or}
-use Rattle.halving.specs.Halving.{halvingsAt}
+use Rattle.halving.specs.Coarse.{halvingsAt}
 
 module _ (half : ℕ) (some : 0 < half) where
   -- the pairs past the capacity, in halves of it, a begun one taken for a whole

@@ -26,7 +26,7 @@ use Rattle.offers.proofs.Counted.{counts-so}
 use Rattle.offers.proofs.Preserved.{taken, stays-good}
 use Rattle.theorems.specs.Run.{step, ranTo}
 use Rattle.theorems.specs.Totals.{wasRecorded}
-use Rattle.halving.specs.History.{keptPairs, after, records, halves, now, recordedOf, halvings}
+use Rattle.halving.specs.History.{keptPairs, after, records, halves, now, recordedOf, halvingsOf}
 use Rattle.halving.specs.Coarse.{pairAt, Places}
 use Rattle.halving.proofs.Level.{level, level-mono, level-count, bound, bound-some, bound-falls, bound-twice}
 use Rattle.halving.proofs.Spread.{none, Spread, spread-all, spread-more, spread-halved}
@@ -165,10 +165,10 @@ module _ (half : ℕ) (some : 0 < half) where
   one-more true k m = omega arith
   one-more false k m = refl
 
-  pub holds-now : (w : Table) (rec : List TrackedSeq) (k : ℕ) (rs : List TrackedSeq) → Holds w rec k → Holds (now w rs) (rec ++ recordedOf w rs) (k + halvings w rs)
-  unfolding ranTo recordedOf halvings
+  pub holds-now : (w : Table) (rec : List TrackedSeq) (k : ℕ) (rs : List TrackedSeq) → Holds w rec k → Holds (now w rs) (rec ++ recordedOf w rs) (k + halvingsOf w rs)
+  unfolding ranTo recordedOf halvingsOf
   holds-now w rec k [] H = rw (append-nil rec, add-zero k) H
   holds-now w rec k (r ∷ rs) H =
       let next = holds-now (after w r) (cond (records w r) (rec ++ (r ∷ [])) rec) (cond (halves w r) (suc k) k) rs (holds-after w rec k H r) in
-      subst (λ l. Holds (now (after w r) rs) l (k + cond (halves w r) (suc (halvings (after w r) rs)) (halvings (after w r) rs))) (front (records w r) rec r (recordedOf (after w r) rs))
-      (subst (λ m. Holds (now (after w r) rs) (cond (records w r) (rec ++ (r ∷ [])) rec ++ recordedOf (after w r) rs) m) (one-more (halves w r) k (halvings (after w r) rs)) next)
+      subst (λ l. Holds (now (after w r) rs) l (k + cond (halves w r) (suc (halvingsOf (after w r) rs)) (halvingsOf (after w r) rs))) (front (records w r) rec r (recordedOf (after w r) rs))
+      (subst (λ m. Holds (now (after w r) rs) (cond (records w r) (rec ++ (r ∷ [])) rec ++ recordedOf (after w r) rs) m) (one-more (halves w r) k (halvingsOf (after w r) rs)) next)

@@ -1,11 +1,14 @@
--- Where the pairs that are kept stand among those that were recorded.
-use Prim.Native.Nat.{ℕ, _+_, _-_, _^_, _≤_, _<_}
+-- Where the pairs that are kept stand among those that were recorded, and how far apart.
+use Prim.Native.Nat.{ℕ, _+_, _-_, _*_, _/_, _^_, _≤_, _<_}
 use mathlib.Core.Path.{_≡_}
+use mathlib.Core.Bool.{cond}
 use mathlib.Core.List.{List}
+use lib.Dec.{leb}
 use lib.IntN.{pos}
 use lib.ListN.{length, getD}
 use Rattle.tracker.specs.declared.TrackedSeq.{TrackedSeq}
 use Rattle.log.specs.Pairs.{pairOf}
+use Rattle.halving.specs.History.{History}
 
 -- the pair at a place of a list, counted from 0 (every use is of a place that the list has)
 abbrev pub pairAt : List TrackedSeq → ℕ → TrackedSeq
@@ -26,8 +29,31 @@ pub record Places (recorded kept : List TrackedSeq) : Type 0 where
 abbrev pub apart : {recorded kept : List TrackedSeq} → Places recorded kept → ℕ → ℕ
 apart p i = p .at (i + 1) - p .at i
 
--- what is kept after k halvings
-pub record Coarse (k : ℕ) (recorded kept : List TrackedSeq) : Type 0 where
-  pub places : Places recorded kept
-  -- two neighbours stand at most 2^k recorded pairs apart
-  pub near : (i : ℕ) → i + 1 < length kept → apart places i ≤ 2 ^ k
+-- what is asked: after k halvings two neighbours stand at most 2^k recorded pairs apart
+pub record Coarse (h : History) : Type 0 where
+  pub places : Places (h .recorded) (h .kept)
+  pub near : (i : ℕ) → i + 1 < length (h .kept) → apart places i ≤ 2 ^ h .halvings
+
+-- ---- how many halvings, and how far back
+
+-- so many halvings have r recorded pairs made at this capacity: none up to the capacity, then one, and one more with each half of the capacity after that
+abbrev pub halvingsAt : ℕ → ℕ → ℕ
+halvingsAt capacity r = cond (leb r capacity) 0 (1 + (r - capacity - 1) / (capacity / 2))
+
+-- so many recorded pairs back lies recorded pair x: as many as were recorded after it
+abbrev pub back : History → ℕ → ℕ
+back h x = length (h .recorded) - 1 - x
+
+pub record Halved (h : History) : Type 0 where
+  pub coarse : Coarse h
+  -- the number of halvings is had from that of the recorded pairs
+  pub how-many : h .halvings ≡ halvingsAt (h .capacity) (length (h .recorded))
+  -- each has dropped half the capacity
+  pub dropped : length (h .recorded) ≡ length (h .kept) + h .halvings * (h .capacity / 2)
+  -- two neighbours of which the older lies at most j times half the capacity back stand at most 2^j recorded pairs apart
+  pub by-age : (i j : ℕ) → i + 1 < length (h .kept) → back h (coarse .places .at i) ≤ j * (h .capacity / 2) → apart (coarse .places) i ≤ 2 ^ j
+
+-- e is the history up to some moment, and h up to a later one: two neighbours that were both recorded after that moment stand at most 2^(the halvings since) recorded pairs apart; and so do two
+-- of which the older was the newest then
+abbrev pub Since : (e h : History) → Places (h .recorded) (h .kept) → Type 0
+Since e h p = (i : ℕ) → i + 1 < length (h .kept) → length (e .recorded) ≤ p .at i + 1 → apart p i ≤ 2 ^ (h .halvings - e .halvings)

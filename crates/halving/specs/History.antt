@@ -41,11 +41,22 @@ unfoldable pub recordedOf : Table → List TrackedSeq → List TrackedSeq
 recordedOf w [] = []
 recordedOf w (r ∷ rs) = cond (records w r) (r ∷ recordedOf (after w r) rs) (recordedOf (after w r) rs)
 
--- all pairs recorded so far: those that the table kept at the start, which are taken as recorded, and those since
-abbrev pub recordedSoFar : Table → List TrackedSeq → List TrackedSeq
-recordedSoFar w rs = keptPairs w ++ recordedOf w rs
+-- how many of them halve the table
+unfoldable pub halvingsOf : Table → List TrackedSeq → ℕ
+halvingsOf w [] = 0
+halvingsOf w (r ∷ rs) = cond (halves w r) (suc (halvingsOf (after w r) rs)) (halvingsOf (after w r) rs)
 
--- how often the table was halved
-unfoldable pub halvings : Table → List TrackedSeq → ℕ
-halvings w [] = 0
-halvings w (r ∷ rs) = cond (halves w r) (suc (halvings (after w r) rs)) (halvings (after w r) rs)
+-- ---- what a table has gone through
+
+pub record History : Type 0 where
+  pub capacity : ℕ
+  -- how often it was halved
+  pub halvings : ℕ
+  -- the pairs recorded so far, in order
+  pub recorded : List TrackedSeq
+  -- those of them that it keeps
+  pub kept : List TrackedSeq
+
+-- by these offers: the pairs that it kept before them are taken as recorded
+abbrev pub historyOf : Table → List TrackedSeq → History
+historyOf w rs = record { capacity = w .state .capacity; halvings = halvingsOf w rs; recorded = keptPairs w ++ recordedOf w rs; kept = keptPairs (now w rs) }

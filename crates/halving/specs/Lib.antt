@@ -1,3 +1,4 @@
 pub mod History
 pub mod Coarse
+pub mod Asked
 pub mod Halving
