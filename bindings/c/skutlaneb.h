@@ -147,7 +147,8 @@ struct skut_table_answer skut_with_config(uint32_t capacity, uint64_t interval_s
 struct skut_answer skut_check(struct skut_state state, const uint64_t *seqs, size_t seqs_len, const int64_t *secs, size_t secs_len);
 
 /* Offers a pair: 31; 16; then it may be skipped; then 17; else it is recorded. Where it is not refused, exactly one number of `tally` is 1. With 16 or 17 a state
- * is returned, which counts that; with 31 nothing is counted, and none is returned. Stack: 512 bytes. */
+ * is returned, which counts that; with 31 nothing is counted, and none is returned. Where more pairs than the capacity would stand, every second one is dropped:
+ * the project's README says how coarse old answers may then be. Stack: 512 bytes. */
 struct skut_table_answer skut_offer(struct skut_state state, uint64_t *seqs, size_t seqs_len, int64_t *secs, size_t secs_len, uint64_t seq, int64_t sec);
 
 /* Offers pairs in order, from two lists of one length, up to the first that is refused (31, 16, 17). Lists of different length are refused before all else: 18.

@@ -28,6 +28,12 @@ pub use totals::Totals;
 /// Where one of these conditions fails, another table may come back without an error: the four calls of storage have an example each. The bytes never have the
 /// totals: [`Totals`].
 ///
+/// # How coarse an old answer may be
+///
+/// At an even capacity from 2 up the first recorded pair and the newest are always kept, and two neighbouring pairs stand further apart the further back they
+/// lie: at capacity 8,192 at most 2 recorded pairs where at most 4,096 were recorded after the older, at most 4 where at most 8,192 were, and twice as many with
+/// each 4,096 more. The project's README has the table, what it means for lookups, and how [`Totals::recorded`] tells the number of halvings.
+///
 /// # What a call costs
 ///
 /// Every offer, lookup and save checks the whole table and is refused where the check fails, so that a wrong answer is not given in silence. The check takes
