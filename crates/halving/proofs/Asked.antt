@@ -1,16 +1,13 @@
 -- What is asked of the kept pairs, beside the same asked of all recorded ones.
-use mathlib.Core.Path.{_≡_, refl, sym, ap, _∙_}
+use mathlib.Core.Path.{_≡_, ap, _∙_}
 use mathlib.Core.Logic.{_↔_, _⊎_, inl, inr, ⊎-elim}
 use mathlib.Core.Bool.{Bool, true, false, not}
 use mathlib.Core.List.{List, map}
-use Prim.Native.Nat.{ℕ, zero, suc, _+_, _-_, _*_, _/_, _^_, _≤_, _<_}
+use Prim.Native.Nat.{ℕ, _+_, _-_, _*_, _/_, _^_, _≤_, _<_}
 use native.Mathlib.Nat.{eq-or-lt-of-le, one-le-pow}
 use native.Mathlib.Omega.{arith}
-use borrow.Author.Tests.{ltb-false, not-true}
-use lib.Dec.{ltb}
-use lib.IntN.{ℤ, pos, negsuc}
+use borrow.Author.Tests.{not-true}
 use lib.ListN.{length, getD, List·getD-map}
-use lib.Signed.{ltZ}
 use Rattle.order.specs.First.{first, final}
 use Rattle.order.proofs.Bools.{other, true-false, below-or}
 use Rattle.order.proofs.First.{first-none, first-within, first-holds, first-least, first-out, first-same}
@@ -19,7 +16,6 @@ use Rattle.order.proofs.Order.{Order, itself}
 use Rattle.tracker.specs.declared.TrackedSeq.{TrackedSeq}
 use Rattle.lookup.specs.declared.FindOption.{FindOption}
 use Rattle.lookup.specs.declared.FindOption.the-variants.{RoundUp, RoundDown}
-use Rattle.halving.specs.History.{History}
 use Rattle.halving.specs.Coarse.{pairAt, Places}
 use Rattle.halving.specs.Asked.{Close, named}
 use Rattle.halving.proofs.Level.{level, level-step, bound, bound-falls, bound-most}

@@ -1,20 +1,19 @@
 -- The statement of specs/Halving.antt.
 use mathlib.Core.Path.{_≡_, refl, sym, ap, _∙_}
-use mathlib.Core.Logic.{⊎-elim}
 use mathlib.Core.Bool.{Bool, true, false, cond, _&&_, false≢true}
 use mathlib.Core.List.{List, [], _∷_, _++_, map}
-use Prim.Native.Nat.{ℕ, suc, _+_, _-_, _*_, _/_, _^_, _≤_, _<_}
+use Prim.Native.Nat.{ℕ, suc, _+_, _-_, _/_, _^_, _≤_, _<_}
 use native.Mathlib.Nat.{zero-add, one-le-pow}
 use native.Mathlib.Omega.{arith}
 use borrow.Author.Tests.{lt-ltb, ltb-false, ne-eqb}
 use lib.Dec.{ltb}
 use lib.IntN.{ℤ, pos, negsuc}
-use lib.ListN.{length, getD, take, length-append}
+use lib.ListN.{length, take, length-append}
 use lib.Seq.{take-take}
 use lib.Signed.{ltZ}
-use Rattle.told.specs.Told.{Told, gave, refused, ifGood}
+use Rattle.told.specs.Told.{Told, gave, refused}
 use Rattle.told.proofs.Unique.{same-gift}
-use Rattle.gorilla.specs.Reading.{Pairs, pairsRead}
+use Rattle.gorilla.specs.Reading.{pairsRead}
 use Rattle.limits.specs.Settings.{badSettings, roomOf}
 use Rattle.order.proofs.Bools.{passed}
 use Rattle.order.proofs.Order.{Order, nat-order, int-order}
@@ -32,23 +31,22 @@ use Rattle.offers.specs.Whole.{Table, whole, checkIn}
 use Rattle.offers.specs.Offer.{Outcome, recorded, wentBack, tooSoon, pairRefused, offerTo, offeredTo}
 use Rattle.offers.proofs.Preserved.{taken}
 use Rattle.log.specs.Pairs.{recordsOf}
-use Rattle.restoring.specs.Restore.{readTable, RestoresAt}
-use Rattle.restoring.specs.declared.Restored.the-variants as restored
-use Rattle.theorems.specs.Run.{step, ranTo, answers}
+use Rattle.restoring.specs.Restore.{readTable}
+use Rattle.theorems.specs.Run.{step, answers}
 use Rattle.theorems.specs.Lists.{offersOf}
 use Rattle.theorems.specs.Totals.{wasRecorded, howMany}
 use Rattle.theorems.proofs.Sound.{empty-good}
 use Rattle.theorems.proofs.Restored.{restored-sound, restored-kept}
-use Rattle.theorems.proofs.Totals.{totals-count, made-zero, restored-zero}
+use Rattle.theorems.proofs.Totals.{totals-count, restored-zero}
 use Rattle.halving.specs.History.{keptPairs, after, records, halves, now, recordedOf, halvingsOf, History, historyOf}
 use Rattle.halving.specs.Coarse.{pairAt, Places, halvingsAt}
-use Rattle.halving.specs.Asked.{Close, CloseBy, named, Answers}
+use Rattle.halving.specs.Asked.{CloseBy, named, Answers}
 use Rattle.halving.specs.Halving.{findTsIn, findSeqIn, Hides, EvenFrom2, FromEmpty, HalvingHides}
 use Rattle.halving.proofs.Level.{level, level-is, level-mono, bound, bound-most}
 use Rattle.halving.proofs.Spread.{none, Spread}
 use Rattle.halving.proofs.Kept.{records-seqs, records-secs, kept-count, kept-fit, kept-same, kept-at, few, kept-recorded}
 use Rattle.halving.proofs.Asked.{InOrder, near-most, near-all, near-aged, down-close, down-aged, up-close, alike, found, found-down, found-up}
-use Rattle.halving.proofs.Run.{Stands, levelled, Holds, holds-first, holds-now}
+use Rattle.halving.proofs.Run.{levelled, Holds, holds-first, holds-now}
 
 -- ---- one recorded pair
 

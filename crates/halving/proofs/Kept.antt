@@ -7,7 +7,7 @@ use native.Mathlib.Omega.{arith}
 use borrow.Author.Tests.{ne-eqb}
 use lib.Dec.{ltb}
 use lib.IntN.{ℤ, pos}
-use lib.ListN.{length, getD, take, length-append}
+use lib.ListN.{length, getD, take}
 use lib.Seq.{length-take-le, getD-take}
 use lib.Signed.{ltZ}
 use Rattle.told.specs.Told.{gave}
@@ -16,7 +16,7 @@ use Rattle.order.proofs.Order.{nat-order, int-order, rises}
 use Rattle.tracker.specs.declared.TrackedSeq.{TrackedSeq}
 use Rattle.tracker.specs.declared.SequenceTracker.{SequenceTracker}
 use Rattle.tracker.proofs.Good.{Fine, fine, count-seqs, count-secs}
-use Rattle.keeping.specs.Keep.{evens, thinned}
+use Rattle.keeping.specs.Keep.{evens}
 use Rattle.keeping.proofs.Thinned.{appended-length}
 use Rattle.offers.specs.Whole.{Table, checkIn}
 use Rattle.offers.specs.Offer.{recorded, offerTo, offeredTo}

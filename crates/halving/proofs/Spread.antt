@@ -9,7 +9,7 @@ use native.Mathlib.Omega.{arith}
 use borrow.Author.Tests.{le-ltb, lt-ltb}
 use lib.Dec.{ltb}
 use lib.IntN.{pos}
-use lib.ListN.{length, getD, length-append, List·getD-append}
+use lib.ListN.{length, length-append, List·getD-append}
 use lib.Seq.{getD-append-seam}
 use Rattle.order.proofs.Bools.{below-or}
 use Rattle.tracker.specs.declared.TrackedSeq.{TrackedSeq}
@@ -49,11 +49,6 @@ module _ {rec kept : List TrackedSeq} (P : Places rec kept) where
       let e : length kept - 1 ≡ i = omega arith in
       rw e at (P .newest (omega (arith, P .each i h .0)))
 
-  -- and the newest pair is kept last
-  pub newest-is : (i : ℕ) → i < length kept → length rec ≤ P .at i + 1 → length kept ≤ i + 1
-  newest-is i h l =
-      ⊎-elim (λ (b : i + 1 < length kept). absurd (omega (arith, P .in-order i b, P .each (i + 1) b .0))) (λ (b : length kept ≤ i + 1). b) (below-or (i + 1) (length kept))
-
 module _ (g : ℕ → ℕ) (rec kept : List TrackedSeq) (S : Spread g rec kept) where
   abbrev at : ℕ → ℕ
   at = S .places .at
@@ -71,10 +66,6 @@ module _ (g : ℕ → ℕ) (rec kept : List TrackedSeq) (S : Spread g rec kept) 
     where
       before : (j : ℕ) → j < i + 1 → at j ≤ at i
       before j b = ⊎-elim (λ (e : j ≡ i). rw e (omega arith)) (λ (l : j < i). omega (arith, later (S .places) j i l (omega arith))) (eq-or-lt-of-le (omega arith))
-
-  -- a wider bound
-  pub spread-wider : (g′ : ℕ → ℕ) → ((x : ℕ) → x < length rec → g x ≤ g′ x) → Spread g′ rec kept
-  spread-wider g′ w = record { places = S .places; up = λ x h. let (i, l, from, to) = S .up x h in (i, l, from, omega (arith, w x h)) }
 
   -- one more is recorded and kept
   module _ (r : TrackedSeq) (least : (x : ℕ) → 1 ≤ g x) where
