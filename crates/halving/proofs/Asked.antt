@@ -4,7 +4,7 @@ use mathlib.Core.Logic.{_↔_, _⊎_, inl, inr, ⊎-elim}
 use mathlib.Core.Bool.{Bool, true, false, not}
 use mathlib.Core.List.{List, map}
 use Prim.Native.Nat.{ℕ, _+_, _-_, _*_, _/_, _^_, _≤_, _<_}
-use native.Mathlib.Nat.{eq-or-lt-of-le, one-le-pow}
+use native.Mathlib.Nat.{one-le-pow}
 use native.Mathlib.Omega.{arith}
 use borrow.Author.Tests.{not-true}
 use lib.ListN.{length, getD, List·getD-map}
@@ -19,7 +19,7 @@ use Rattle.lookup.specs.declared.FindOption.the-variants.{RoundUp, RoundDown}
 use Rattle.halving.specs.Coarse.{pairAt, Places}
 use Rattle.halving.specs.Asked.{Close, named}
 use Rattle.halving.proofs.Level.{level, level-step, bound, bound-falls, bound-most}
-use Rattle.halving.proofs.Spread.{none, Spread, later, last-is, near}
+use Rattle.halving.proofs.Spread.{none, Spread, rises, last-is, near}
 
 -- ---- a test of places, asked of all recorded pairs and of the kept ones
 
@@ -128,13 +128,7 @@ module _ (half : ℕ) (some : 0 < half) (k : ℕ) {rec kept : List TrackedSeq} (
       where
         reached : (m : ℕ) → m < length kept → y + 1 - 2 ^ j ≤ at m → at m ≤ y → y < at i + 2 ^ j
         reached m lm low high =
-            ⊎-elim
-            (λ (b : i < m).
-            ⊎-elim (λ (e : i + 1 ≡ m). absurd (omega (arith, next (omega arith), ap at e)))
-            (λ (c : i + 1 < m). absurd (omega (arith, next (omega arith), later (S .places) (i + 1) m c lm)))
-            (eq-or-lt-of-le (omega arith)))
-            (λ (b : m ≤ i). ⊎-elim (λ (e : m ≡ i). omega (arith, ap at e)) (λ (c : m < i). omega (arith, later (S .places) m i c l)) (eq-or-lt-of-le b))
-            (below-or i m)
+            ⊎-elim (λ (b : i < m). absurd (omega (arith, next (omega arith), rises (S .places) (i + 1) m (omega arith) lm))) (λ (b : m ≤ i). omega (arith, rises (S .places) m i b l)) (below-or i m)
 
   -- the first kept pair not before y
   pub up-close : (i y : ℕ) → y < length rec → i < length kept → y ≤ at i → ((j : ℕ) → j < length kept → y ≤ at j → i ≤ j) → (capacity : ℕ) → capacity / 2 ≡ half
@@ -144,7 +138,7 @@ module _ (half : ℕ) (some : 0 < half) (k : ℕ) {rec kept : List TrackedSeq} (
       short : at i < y + bound half some k y
       short =
           let (m, lm, low, high) = S .up y inside in
-          ⊎-elim (λ (e : i ≡ m). omega (arith, ap at e)) (λ (c : i < m). omega (arith, later (S .places) i m c lm)) (eq-or-lt-of-le (least m lm low))
+          omega (arith, rises (S .places) i m (least m lm low) lm)
 
 -- ---- by keys
 

@@ -43,6 +43,9 @@ module _ {rec kept : List TrackedSeq} (P : Places rec kept) where
       let one : P .at j < P .at (suc j) = rw s at (P .in-order j (omega arith)) in
       ⊎-elim (λ (e : i ≡ j). rw e one) (λ (b : i < j). omega (arith, later i j b (omega arith))) (eq-or-lt-of-le (omega arith))
 
+  pub rises : (i j : ℕ) → i ≤ j → j < length kept → P .at i ≤ P .at j
+  rises i j h l = ⊎-elim (λ (e : i ≡ j). rw e (omega arith)) (λ (b : i < j). omega (arith, later i j b l)) (eq-or-lt-of-le h)
+
   -- the last kept pair is the newest
   pub last-is : (i : ℕ) → i < length kept → length kept ≤ i + 1 → P .at i ≡ length rec - 1
   last-is i h l =
@@ -59,13 +62,7 @@ module _ (g : ℕ → ℕ) (rec kept : List TrackedSeq) (S : Spread g rec kept) 
       let a = S .places .in-order i h in
       let w = S .places .each (i + 1) h .0 in
       let (j, jk, from, to) = S .up (at i + 1) (omega arith) in
-      ⊎-elim (λ (b : j < i + 1). absurd (omega (arith, before j b)))
-      (λ (b : i + 1 ≤ j).
-      ⊎-elim (λ (e : i + 1 ≡ j). rw e (omega arith)) (λ (l : i + 1 < j). omega (arith, later (S .places) (i + 1) j l jk)) (eq-or-lt-of-le b))
-      (below-or j (i + 1))
-    where
-      before : (j : ℕ) → j < i + 1 → at j ≤ at i
-      before j b = ⊎-elim (λ (e : j ≡ i). rw e (omega arith)) (λ (l : j < i). omega (arith, later (S .places) j i l (omega arith))) (eq-or-lt-of-le (omega arith))
+      ⊎-elim (λ (b : j < i + 1). absurd (omega (arith, rises (S .places) j i (omega arith) (omega arith)))) (λ (b : i + 1 ≤ j). omega (arith, rises (S .places) (i + 1) j b jk)) (below-or j (i + 1))
 
   -- one more is recorded and kept
   module _ (r : TrackedSeq) (least : (x : ℕ) → 1 ≤ g x) where
