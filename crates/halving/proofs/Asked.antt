@@ -34,7 +34,6 @@ module _ {rec kept : List TrackedSeq} (P : Places rec kept) (T : ℕ → Bool) w
 
     pub final-among : y < length rec → (i < length kept) × (P .at i ≤ y) × (i + 1 < length kept → y < P .at (i + 1))
     final-among h =
-        let hit = final-holds T (length rec) h in
         let l = within (below-or i (length kept)) in
         (l, final-most T (length rec) (P .at i) (P .each i l .0) (final-holds (λ j. T (P .at j)) (length kept) l), λ b. next b (below-or y (P .at (i + 1))))
       where
@@ -64,7 +63,6 @@ module _ {rec kept : List TrackedSeq} (P : Places rec kept) (T : ℕ → Bool) w
 
     pub first-among : y′ < length rec → (i′ < length kept) × (y′ ≤ P .at i′) × ((j : ℕ) → j < length kept → y′ ≤ P .at j → i′ ≤ j)
     first-among h =
-        let hit = first-holds T (length rec) h in
         let s = P .first (omega arith) .0 in
         let e = P .newest (omega arith) in
         let m = length kept - 1 in

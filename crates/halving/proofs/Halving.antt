@@ -1,32 +1,27 @@
 -- The statement of specs/Halving.antt.
 use mathlib.Core.Path.{_≡_, refl, sym, ap, _∙_}
 use mathlib.Core.Bool.{Bool, true, false, cond, _&&_, false≢true}
-use mathlib.Core.List.{List, [], _∷_, _++_, map}
-use Prim.Native.Nat.{ℕ, suc, _+_, _-_, _/_, _^_, _≤_, _<_}
-use native.Mathlib.Nat.{zero-add, one-le-pow}
+use mathlib.Core.List.{List, [], _∷_, _++_}
+use Prim.Native.Nat.{ℕ, suc, _+_, _-_, _/_, _≤_, _<_}
+use native.Mathlib.Nat.{zero-add}
 use native.Mathlib.Omega.{arith}
-use borrow.Author.Tests.{lt-ltb, ltb-false, ne-eqb}
+use borrow.Author.Tests.{ne-eqb}
 use lib.Dec.{ltb}
-use lib.IntN.{ℤ, pos, negsuc}
-use lib.ListN.{length, take, length-append}
-use lib.Seq.{take-take}
+use lib.IntN.{ℤ, pos}
+use lib.ListN.{length, length-append}
 use lib.Signed.{ltZ}
 use Rattle.told.specs.Told.{Told, gave, refused}
 use Rattle.told.proofs.Unique.{same-gift}
 use Rattle.gorilla.specs.Reading.{pairsRead}
 use Rattle.limits.specs.Settings.{badSettings, roomOf}
 use Rattle.order.proofs.Bools.{passed}
-use Rattle.order.proofs.Order.{Order, nat-order, int-order}
+use Rattle.order.proofs.Order.{nat-order, int-order}
 use Rattle.tracker.specs.declared.Seq.{Seq}
 use Rattle.tracker.specs.declared.Second.{Second}
 use Rattle.tracker.specs.declared.TrackedSeq.{TrackedSeq}
 use Rattle.tracker.specs.declared.SequenceTracker.{SequenceTracker}
 use Rattle.fresh.specs.Fresh.{emptyTable, configOf}
 use Rattle.keeping.specs.Keep.{evens}
-use Rattle.lookup.specs.Find.{Partner, partner, standing, place, secondAt, seqAt, findTs, findSeq}
-use Rattle.lookup.specs.declared.FindOption.{FindOption}
-use Rattle.lookup.specs.declared.FindOption.the-variants.{RoundUp, RoundDown}
-use Rattle.lookup.proofs.Laws.{place-same, standing-same}
 use Rattle.offers.specs.Whole.{Table, whole, checkIn}
 use Rattle.offers.specs.Offer.{Outcome, recorded, wentBack, tooSoon, pairRefused, offerTo, offeredTo}
 use Rattle.offers.proofs.Preserved.{taken}
@@ -38,14 +33,15 @@ use Rattle.theorems.specs.Totals.{wasRecorded, howMany}
 use Rattle.theorems.proofs.Sound.{empty-good}
 use Rattle.theorems.proofs.Restored.{restored-sound, restored-kept}
 use Rattle.theorems.proofs.Totals.{totals-count, restored-zero}
-use Rattle.halving.specs.History.{keptPairs, after, records, halves, now, recordedOf, halvingsOf, History, historyOf}
-use Rattle.halving.specs.Coarse.{pairAt, Places, halvingsAt}
-use Rattle.halving.specs.Asked.{CloseBy, named, Answers}
+use Rattle.halving.specs.History.{keptPairs, after, records, halves, now, recordedOf, halvingsOf, historyOf}
+use Rattle.halving.specs.Coarse.{pairAt, halvingsAt}
+use Rattle.halving.specs.Asked.{Answers}
 use Rattle.halving.specs.Halving.{findTsIn, findSeqIn, Hides, EvenFrom2, FromEmpty, HalvingHides}
 use Rattle.halving.proofs.Level.{level, level-is, level-mono, bound, bound-most}
-use Rattle.halving.proofs.Spread.{none, Spread}
-use Rattle.halving.proofs.Kept.{records-seqs, records-secs, kept-count, kept-fit, kept-same, kept-at, few, kept-recorded}
-use Rattle.halving.proofs.Asked.{InOrder, near-most, near-all, near-aged, down-close, down-aged, up-close, alike, found, found-down, found-up}
+use Rattle.halving.proofs.Spread.{Spread}
+use Rattle.halving.proofs.Kept.{kept-count, kept-fit, few, kept-recorded}
+use Rattle.halving.proofs.Asked.{near-most, near-all, near-aged}
+use Rattle.halving.proofs.Found.{by-seqs, by-secs, nat-same, int-same, answered, asked-recorded, seqNo, second}
 use Rattle.halving.proofs.Run.{levelled, Holds, holds-first, holds-now}
 
 -- ---- one recorded pair
@@ -75,80 +71,6 @@ recorded-number w (r ∷ rs) = go (records w r) (recordedOf (after w r) rs) (rec
 
 counted-recorded : (w : Table) → checkIn w ≡ gave tt → (rs : List TrackedSeq) → length (keptPairs w ++ recordedOf w rs) + w .state .totals .recorded ≡ w .state .count + now w rs .state .totals .recorded
 counted-recorded w good rs = omega (arith, length-append (keptPairs w) (recordedOf w rs), kept-count w good, recorded-number w rs, totals-count .over-offers w rs .recorded-are)
-
--- ---- lookups, as they go by the kept pairs
-
--- the place that answers, and what stands there, of keys and partners that are the same up to n
-module _ {K A : Type 0} (lt : K → K → Bool) (d : K) (n : ℕ) (keys keys′ : List K) (e : take n keys ≡ take n keys′) (x : K) (at at′ : ℕ → A) (same : (p : ℕ) → p < n → at p ≡ at′ p) where
-  same-answer : (m : ℕ) → m ≡ n → (opt : FindOption) → standing at n (place lt d opt keys n x) ≡ standing at′ m (place lt d opt keys′ m x)
-  same-answer m f opt = rw f (ap (standing at n) (place-same lt d n keys keys′ e x opt) ∙ standing-same at at′ n (place lt d opt keys′ n x) (same (place lt d opt keys′ n x)))
-
-module _ (v : Table) (good : checkIn v ≡ gave tt) where
-  abbrev n : ℕ
-  n = v .state .count
-
-  by-seqs : (seq : Seq) (opt : FindOption) → findTs (v .state) (v .seqs) (v .secs) seq opt ≡ gave (standing (λ i. pairAt (keptPairs v) i .ts) (length (keptPairs v)) (named ltb 0 (λ r. r .seq .0) opt (keptPairs v) (seq .0)))
-  by-seqs seq opt =
-      let keys : take n (v .seqs) ≡ take n (map (λ r. r .seq .0) (keptPairs v)) = rw (records-seqs (take n (v .seqs)) (take n (v .secs)) (kept-same v good)) (sym (take-take n n (v .seqs) (omega arith))) in
-      rw good (ap gave (same-answer ltb 0 n (v .seqs) (map (λ r. r .seq .0) (keptPairs v)) keys (seq .0) (secondAt (v .secs)) (λ i. pairAt (keptPairs v) i .ts) (λ p h. sym (ap (λ r. r .ts) (kept-at v good p h))) (length (keptPairs v)) (kept-count v good) opt))
-
-  by-secs : (ts : Second) (opt : FindOption) → findSeq (v .state) (v .seqs) (v .secs) ts opt ≡ gave (standing (λ i. pairAt (keptPairs v) i .seq) (length (keptPairs v)) (named ltZ (pos 0) (λ r. r .ts .0) opt (keptPairs v) (ts .0)))
-  by-secs ts opt =
-      let keys : take n (v .secs) ≡ take n (map (λ r. r .ts .0) (keptPairs v)) = rw (records-secs (take n (v .seqs)) (take n (v .secs)) (kept-same v good)) (sym (take-take n n (v .secs) (omega arith))) in
-      rw good (ap gave (same-answer ltZ (pos 0) n (v .secs) (map (λ r. r .ts .0) (keptPairs v)) keys (ts .0) (seqAt (v .seqs)) (λ i. pairAt (keptPairs v) i .seq) (λ p h. sym (ap (λ r. r .seq) (kept-at v good p h))) (length (keptPairs v)) (kept-count v good) opt))
-
--- two numbers of which neither is below the other are one
-nat-same : (a b : ℕ) → ltb a b ≡ false → ltb b a ≡ false → a ≡ b
-nat-same a b e f = omega (arith, ltb-false a b e, ltb-false b a f)
-
-int-same : (a b : ℤ) → ltZ a b ≡ false → ltZ b a ≡ false → a ≡ b
-int-same (pos a) (pos b) e f = ap pos (nat-same a b e f)
-int-same (pos a) (negsuc b) e f = absurd (false≢true (sym f))
-int-same (negsuc a) (pos b) e f = absurd (false≢true (sym e))
-int-same (negsuc a) (negsuc b) e f = ap negsuc (nat-same a b f e)
-
-module _ (half : ℕ) (some : 0 < half) (k : ℕ) (rec kept : List TrackedSeq) (S : Spread (bound half some k) rec kept) (l : level half some (length rec) ≡ k) (capacity : ℕ) (two : capacity / 2 ≡ half) where
-  answered : {K A : Type 0} (lt : K → K → Bool) (O : Order lt) (key : TrackedSeq → K) (value : TrackedSeq → A) → InOrder lt key rec
-      → (x : K) (find : FindOption → Told (Partner A)) → ((opt : FindOption) → find opt ≡ gave (standing (λ i. value (pairAt kept i)) (length kept) (named lt (key none) key opt kept x)))
-      → Answers lt (key none) key value (record { capacity = capacity; halvings = k; recorded = rec; kept = kept }) (S .places) x find
-  answered lt O key value sorted x find finds = record {
-    from-kept = finds;
-    nothing-alike = alike lt O key (S .places) x sorted;
-    close = close;
-    close-down = λ j h b. let f = found-down lt O key (S .places) x sorted h in down-aged half some k S l _ _ (f .0) h (f .1) (f .2) j (rw two at b);
-  }
-    where
-      close : (opt : FindOption) → named lt (key none) key opt rec x < length rec
-          → (named lt (key none) key opt kept x < length kept)
-          × CloseBy opt (record { capacity = capacity; halvings = k; recorded = rec; kept = kept }) (S .places .at (named lt (key none) key opt kept x)) (named lt (key none) key opt rec x)
-      close RoundDown h = let f = found-down lt O key (S .places) x sorted h in (f .0, down-close half some k S l _ _ (f .0) h (f .1) (f .2) capacity two)
-      close RoundUp h = let f = found-up lt O key (S .places) x sorted h in (f .0, up-close half some k S l _ _ h (f .0) (f .1) (f .2) capacity two)
-
--- of a recorded key the pair that would answer among all recorded ones is one of that key, and the one that answers is near it
-module _ {K A : Type 0} (lt : K → K → Bool) (O : Order lt) (key : TrackedSeq → K) (value : TrackedSeq → A) (same : (a b : K) → lt a b ≡ false → lt b a ≡ false → a ≡ b) where
-  asked-recorded : (h : History) (P : Places (h .recorded) (h .kept)) → InOrder lt key (h .recorded) → (y : ℕ) (find : FindOption → Told (Partner A)) → y < length (h .recorded)
-      → Answers lt (key none) key value h P (key (pairAt (h .recorded) y)) find → (opt : FindOption)
-      → (i z : ℕ) × (i < length (h .kept)) × (find opt ≡ gave (partner (value (pairAt (h .kept) i)))) × (z < length (h .recorded)) × (key (pairAt (h .recorded) z) ≡ key (pairAt (h .recorded) y))
-      × (z < P .at i + 2 ^ h .halvings) × (P .at i < z + 2 ^ h .halvings)
-  asked-recorded h P sorted y find l N opt =
-      let x = key (pairAt (h .recorded) y) in
-      let i = named lt (key none) key opt (h .kept) x in
-      let z = named lt (key none) key opt (h .recorded) x in
-      let f = found lt O key P x sorted same opt y l refl in
-      let c = N .close opt (f .0) in
-      let n = near opt (c .1) in
-      (i, z, c .0, N .from-kept opt ∙ rw (lt-ltb i (length (h .kept)) (c .0)), f .0, f .1, n .0, n .1)
-    where
-      near : (opt : FindOption) {i z : ℕ} → CloseBy opt h (P .at i) z → (z < P .at i + 2 ^ h .halvings) × (P .at i < z + 2 ^ h .halvings)
-      near RoundDown c = (c .1, omega (arith, c .0, c .1, one-le-pow (h .halvings) 2 (omega arith)))
-      near RoundUp c = (omega (arith, c .0, c .1, one-le-pow (h .halvings) 2 (omega arith)), c .1)
-
--- a number as a sequence, and as a second
-abbrev seqNo : ℕ → Seq
-seqNo q = record { 0 = q }
-
-abbrev second : ℤ → Second
-second s = record { 0 = s }
 
 -- ---- the theorem
 

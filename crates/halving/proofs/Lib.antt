@@ -3,5 +3,6 @@ mod Level
 mod Spread
 mod Kept
 mod Asked
+mod Found
 mod Run
 pub mod Halving
