@@ -16,10 +16,11 @@ use Rattle.order.proofs.Order.{Order, itself}
 use Rattle.tracker.specs.declared.TrackedSeq.{TrackedSeq}
 use Rattle.lookup.specs.declared.FindOption.{FindOption}
 use Rattle.lookup.specs.declared.FindOption.the-variants.{RoundUp, RoundDown}
+use Rattle.log.proofs.Run.{noRecord}
 use Rattle.halving.specs.Coarse.{pairAt, Places}
 use Rattle.halving.specs.Asked.{Close, named}
 use Rattle.halving.proofs.Level.{level, level-step, bound, bound-falls, bound-most}
-use Rattle.halving.proofs.Spread.{none, Spread, rises, last-is, near}
+use Rattle.halving.proofs.Spread.{Spread, rises, last-is, near}
 
 -- ---- a test of places, asked of all recorded pairs and of the kept ones
 
@@ -32,7 +33,7 @@ module _ {rec kept : List TrackedSeq} (P : Places rec kept) (T : ℕ → Bool) w
     abbrev i : ℕ
     i = final (λ j. T (P .at j)) (length kept)
 
-    pub final-among : y < length rec → (i < length kept) × (P .at i ≤ y) × (i + 1 < length kept → y < P .at (i + 1))
+    final-among : y < length rec → (i < length kept) × (P .at i ≤ y) × (i + 1 < length kept → y < P .at (i + 1))
     final-among h =
         let l = within (below-or i (length kept)) in
         (l, final-most T (length rec) (P .at i) (P .each i l .0) (final-holds (λ j. T (P .at j)) (length kept) l), λ b. next b (below-or y (P .at (i + 1))))
@@ -47,7 +48,7 @@ module _ {rec kept : List TrackedSeq} (P : Places rec kept) (T : ℕ → Bool) w
         next b (inl l) = l
         next b (inr l) = absurd (true-false (T (P .at (i + 1))) (falls (P .at (i + 1)) y l h (final-holds T (length rec) h)) (final-over (λ j. T (P .at j)) (length kept) (i + 1) b (omega arith)))
 
-    pub final-alike : (i ≡ length kept) ↔ (y ≡ length rec)
+    final-alike : (i ≡ length kept) ↔ (y ≡ length rec)
     final-alike = (
       λ e. ⊎-elim (λ (l : y < length rec). absurd (omega (arith, final-among l .0))) (λ (l : length rec ≤ y). final-none T (length rec) (final-out T (length rec) l)) (below-or y (length rec)),
       λ e. final-none (λ j. T (P .at j)) (length kept) (λ j l. final-out T (length rec) (omega arith) (P .at j) (P .each j l .0)),
@@ -61,7 +62,7 @@ module _ {rec kept : List TrackedSeq} (P : Places rec kept) (T : ℕ → Bool) w
     abbrev i′ : ℕ
     i′ = first (λ j. T (P .at j)) (length kept)
 
-    pub first-among : y′ < length rec → (i′ < length kept) × (y′ ≤ P .at i′) × ((j : ℕ) → j < length kept → y′ ≤ P .at j → i′ ≤ j)
+    first-among : y′ < length rec → (i′ < length kept) × (y′ ≤ P .at i′) × ((j : ℕ) → j < length kept → y′ ≤ P .at j → i′ ≤ j)
     first-among h =
         let s = P .first (omega arith) .0 in
         let e = P .newest (omega arith) in
@@ -73,7 +74,7 @@ module _ {rec kept : List TrackedSeq} (P : Places rec kept) (T : ℕ → Bool) w
         from : (j : ℕ) → j < length kept → y′ ≤ P .at j → i′ ≤ j
         from j l b = first-least (λ j. T (P .at j)) (length kept) j l (climbs y′ (P .at j) b (P .each j l .0) (first-holds T (length rec) h))
 
-    pub first-alike : (i′ ≡ length kept) ↔ (y′ ≡ length rec)
+    first-alike : (i′ ≡ length kept) ↔ (y′ ≡ length rec)
     first-alike = (
       λ e. ⊎-elim (λ (l : y′ < length rec). absurd (omega (arith, first-among l .0))) (λ (l : length rec ≤ y′). omega (arith, first-within T (length rec))) (below-or y′ (length rec)),
       λ e. first-none (λ j. T (P .at j)) (length kept) (length kept) (omega arith) (λ j l. first-out T (length rec) (omega arith) (P .at j) (P .each j l .0)),
@@ -150,18 +151,18 @@ module _ {K : Type 0} (lt : K → K → Bool) (O : Order lt) (key : TrackedSeq �
   reaches RoundUp pairs x i = not (lt (key (pairAt pairs i)) x)
   reaches RoundDown pairs x i = not (lt x (key (pairAt pairs i)))
 
-  named-up : (pairs : List TrackedSeq) (x : K) → named lt (key none) key RoundUp pairs x ≡ first (reaches RoundUp pairs x) (length pairs)
-  named-up pairs x = first-same (λ i. not (lt (getD (map key pairs) i (key none)) x)) (reaches RoundUp pairs x) (length pairs) (λ j l. ap (λ y. not (lt y x)) (List·getD-map key pairs j none))
+  named-up : (pairs : List TrackedSeq) (x : K) → named lt (key noRecord) key RoundUp pairs x ≡ first (reaches RoundUp pairs x) (length pairs)
+  named-up pairs x = first-same (λ i. not (lt (getD (map key pairs) i (key noRecord)) x)) (reaches RoundUp pairs x) (length pairs) (λ j l. ap (λ y. not (lt y x)) (List·getD-map key pairs j noRecord))
 
-  named-down : (pairs : List TrackedSeq) (x : K) → named lt (key none) key RoundDown pairs x ≡ final (reaches RoundDown pairs x) (length pairs)
-  named-down pairs x = final-same (λ i. not (lt x (getD (map key pairs) i (key none)))) (length pairs) (reaches RoundDown pairs x) (λ j l. ap (λ y. not (lt x y)) (List·getD-map key pairs j none))
+  named-down : (pairs : List TrackedSeq) (x : K) → named lt (key noRecord) key RoundDown pairs x ≡ final (reaches RoundDown pairs x) (length pairs)
+  named-down pairs x = final-same (λ i. not (lt x (getD (map key pairs) i (key noRecord)))) (length pairs) (reaches RoundDown pairs x) (λ j l. ap (λ y. not (lt x y)) (List·getD-map key pairs j noRecord))
 
   module _ {rec kept : List TrackedSeq} (P : Places rec kept) (x : K) where
     -- of the kept pairs the test is that of the recorded ones, at their places
-    kept-up : named lt (key none) key RoundUp kept x ≡ first (λ j. reaches RoundUp rec x (P .at j)) (length kept)
+    kept-up : named lt (key noRecord) key RoundUp kept x ≡ first (λ j. reaches RoundUp rec x (P .at j)) (length kept)
     kept-up = named-up kept x ∙ first-same (reaches RoundUp kept x) (λ j. reaches RoundUp rec x (P .at j)) (length kept) (λ j l. ap (λ r. not (lt (key r) x)) (P .each j l .1))
 
-    kept-down : named lt (key none) key RoundDown kept x ≡ final (λ j. reaches RoundDown rec x (P .at j)) (length kept)
+    kept-down : named lt (key noRecord) key RoundDown kept x ≡ final (λ j. reaches RoundDown rec x (P .at j)) (length kept)
     kept-down = named-down kept x ∙ final-same (reaches RoundDown kept x) (length kept) (λ j. reaches RoundDown rec x (P .at j)) (λ j l. ap (λ r. not (lt x (key r))) (P .each j l .1))
 
     module _ (sorted : InOrder lt key rec) where
@@ -171,27 +172,27 @@ module _ {K : Type 0} (lt : K → K → Bool) (O : Order lt) (key : TrackedSeq �
       falls : (a b : ℕ) → a ≤ b → b < length rec → reaches RoundDown rec x b ≡ true → reaches RoundDown rec x a ≡ true
       falls a b h l t = rw (other (lt x (key (pairAt rec a))) (λ s. true-false (lt x (key (pairAt rec b))) (O .lt-le x (key (pairAt rec a)) (key (pairAt rec b)) s (sorted a b h l)) (not-true (lt x (key (pairAt rec b))) t)))
 
-      pub alike : (opt : FindOption) → (named lt (key none) key opt kept x ≡ length kept) ↔ (named lt (key none) key opt rec x ≡ length rec)
+      pub alike : (opt : FindOption) → (named lt (key noRecord) key opt kept x ≡ length kept) ↔ (named lt (key noRecord) key opt rec x ≡ length rec)
       alike RoundUp = rw (kept-up, named-up rec x) (first-alike P (reaches RoundUp rec x) climbs)
       alike RoundDown = rw (kept-down, named-down rec x) (final-alike P (reaches RoundDown rec x) falls)
 
       -- the last kept pair that is not above x, and the last recorded one
-      pub found-down : named lt (key none) key RoundDown rec x < length rec
-          → let y = named lt (key none) key RoundDown rec x in
-          let i = named lt (key none) key RoundDown kept x in
+      pub found-down : named lt (key noRecord) key RoundDown rec x < length rec
+          → let y = named lt (key noRecord) key RoundDown rec x in
+          let i = named lt (key noRecord) key RoundDown kept x in
           (i < length kept) × (P .at i ≤ y) × (i + 1 < length kept → y < P .at (i + 1))
       found-down h = rw (kept-down, named-down rec x) (final-among P (reaches RoundDown rec x) falls (rw (named-down rec x) at h))
 
       -- the first that is not below it
-      pub found-up : named lt (key none) key RoundUp rec x < length rec
-          → let y = named lt (key none) key RoundUp rec x in
-          let i = named lt (key none) key RoundUp kept x in
+      pub found-up : named lt (key noRecord) key RoundUp rec x < length rec
+          → let y = named lt (key noRecord) key RoundUp rec x in
+          let i = named lt (key noRecord) key RoundUp kept x in
           (i < length kept) × (y ≤ P .at i) × ((j : ℕ) → j < length kept → y ≤ P .at j → i ≤ j)
       found-up h = rw (kept-up, named-up rec x) (first-among P (reaches RoundUp rec x) climbs (rw (named-up rec x) at h))
 
       -- a recorded key is found among all recorded ones
       pub found : ((a b : K) → lt a b ≡ false → lt b a ≡ false → a ≡ b) → (opt : FindOption) (y : ℕ) → y < length rec → key (pairAt rec y) ≡ x
-          → (named lt (key none) key opt rec x < length rec) × (key (pairAt rec (named lt (key none) key opt rec x)) ≡ x)
+          → (named lt (key noRecord) key opt rec x < length rec) × (key (pairAt rec (named lt (key noRecord) key opt rec x)) ≡ x)
       found same RoundUp y l e =
           let t = reaches RoundUp rec x in
           let hit : t y ≡ true = rw (e, itself lt O x) in

@@ -21,11 +21,12 @@ use Rattle.lookup.specs.declared.FindOption.{FindOption}
 use Rattle.lookup.specs.declared.FindOption.the-variants.{RoundUp, RoundDown}
 use Rattle.lookup.proofs.Laws.{place-same, standing-same}
 use Rattle.offers.specs.Whole.{Table, checkIn}
+use Rattle.log.proofs.Run.{noRecord}
 use Rattle.halving.specs.History.{keptPairs, History}
 use Rattle.halving.specs.Coarse.{pairAt, Places}
 use Rattle.halving.specs.Asked.{CloseBy, named, Answers}
 use Rattle.halving.proofs.Level.{level, bound}
-use Rattle.halving.proofs.Spread.{none, Spread}
+use Rattle.halving.proofs.Spread.{Spread}
 use Rattle.halving.proofs.Kept.{records-seqs, records-secs, kept-count, kept-same, kept-at}
 use Rattle.halving.proofs.Asked.{InOrder, down-close, down-aged, up-close, alike, found, found-down, found-up}
 
@@ -62,8 +63,8 @@ int-same (negsuc a) (negsuc b) e f = ap negsuc (nat-same a b f e)
 
 module _ (half : ℕ) (some : 0 < half) (k : ℕ) (rec kept : List TrackedSeq) (S : Spread (bound half some k) rec kept) (l : level half some (length rec) ≡ k) (capacity : ℕ) (two : capacity / 2 ≡ half) where
   pub answered : {K A : Type 0} (lt : K → K → Bool) (O : Order lt) (key : TrackedSeq → K) (value : TrackedSeq → A) → InOrder lt key rec
-      → (x : K) (find : FindOption → Told (Partner A)) → ((opt : FindOption) → find opt ≡ gave (standing (λ i. value (pairAt kept i)) (length kept) (named lt (key none) key opt kept x)))
-      → Answers lt (key none) key value (record { capacity = capacity; halvings = k; recorded = rec; kept = kept }) (S .places) x find
+      → (x : K) (find : FindOption → Told (Partner A)) → ((opt : FindOption) → find opt ≡ gave (standing (λ i. value (pairAt kept i)) (length kept) (named lt (key noRecord) key opt kept x)))
+      → Answers lt (key noRecord) key value (record { capacity = capacity; halvings = k; recorded = rec; kept = kept }) (S .places) x find
   answered lt O key value sorted x find finds = record {
     from-kept = finds;
     nothing-alike = alike lt O key (S .places) x sorted;
@@ -71,22 +72,22 @@ module _ (half : ℕ) (some : 0 < half) (k : ℕ) (rec kept : List TrackedSeq) (
     close-down = λ j h b. let f = found-down lt O key (S .places) x sorted h in down-aged half some k S l _ _ (f .0) h (f .1) (f .2) j (rw two at b);
   }
     where
-      close : (opt : FindOption) → named lt (key none) key opt rec x < length rec
-          → (named lt (key none) key opt kept x < length kept)
-          × CloseBy opt (record { capacity = capacity; halvings = k; recorded = rec; kept = kept }) (S .places .at (named lt (key none) key opt kept x)) (named lt (key none) key opt rec x)
+      close : (opt : FindOption) → named lt (key noRecord) key opt rec x < length rec
+          → (named lt (key noRecord) key opt kept x < length kept)
+          × CloseBy opt (record { capacity = capacity; halvings = k; recorded = rec; kept = kept }) (S .places .at (named lt (key noRecord) key opt kept x)) (named lt (key noRecord) key opt rec x)
       close RoundDown h = let f = found-down lt O key (S .places) x sorted h in (f .0, down-close half some k S l _ _ (f .0) h (f .1) (f .2) capacity two)
       close RoundUp h = let f = found-up lt O key (S .places) x sorted h in (f .0, up-close half some k S l _ _ h (f .0) (f .1) (f .2) capacity two)
 
 -- of a recorded key the pair that would answer among all recorded ones is one of that key, and the one that answers is near it
 module _ {K A : Type 0} (lt : K → K → Bool) (O : Order lt) (key : TrackedSeq → K) (value : TrackedSeq → A) (same : (a b : K) → lt a b ≡ false → lt b a ≡ false → a ≡ b) where
   pub asked-recorded : (h : History) (P : Places (h .recorded) (h .kept)) → InOrder lt key (h .recorded) → (y : ℕ) (find : FindOption → Told (Partner A)) → y < length (h .recorded)
-      → Answers lt (key none) key value h P (key (pairAt (h .recorded) y)) find → (opt : FindOption)
+      → Answers lt (key noRecord) key value h P (key (pairAt (h .recorded) y)) find → (opt : FindOption)
       → (i z : ℕ) × (i < length (h .kept)) × (find opt ≡ gave (partner (value (pairAt (h .kept) i)))) × (z < length (h .recorded)) × (key (pairAt (h .recorded) z) ≡ key (pairAt (h .recorded) y))
       × (z < P .at i + 2 ^ h .halvings) × (P .at i < z + 2 ^ h .halvings)
   asked-recorded h P sorted y find l N opt =
       let x = key (pairAt (h .recorded) y) in
-      let i = named lt (key none) key opt (h .kept) x in
-      let z = named lt (key none) key opt (h .recorded) x in
+      let i = named lt (key noRecord) key opt (h .kept) x in
+      let z = named lt (key noRecord) key opt (h .recorded) x in
       let f = found lt O key P x sorted same opt y l refl in
       let c = N .close opt (f .0) in
       let n = near opt (c .1) in

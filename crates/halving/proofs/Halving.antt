@@ -32,7 +32,7 @@ use Rattle.theorems.specs.Lists.{offersOf}
 use Rattle.theorems.specs.Totals.{wasRecorded, howMany}
 use Rattle.theorems.proofs.Sound.{empty-good}
 use Rattle.theorems.proofs.Restored.{restored-sound, restored-kept}
-use Rattle.theorems.proofs.Totals.{totals-count, restored-zero}
+use Rattle.theorems.proofs.Totals.{totals-count}
 use Rattle.halving.specs.History.{keptPairs, after, records, halves, now, recordedOf, halvingsOf, historyOf}
 use Rattle.halving.specs.Coarse.{pairAt, halvingsAt}
 use Rattle.halving.specs.Asked.{Answers}
@@ -160,7 +160,7 @@ halving-hides = record {
       let S = restored-sound interval bytes seqs seqs′ secs secs′ t h in
       let H = from-any w (S .good) (4096, S .capacity, omega arith) rs in
       let kept = restored-kept interval bytes seqs seqs′ secs secs′ t h in
-      let zero = ap (λ n. n .recorded) (restored-zero interval bytes seqs secs t (sym (h .0))) in
+      let zero = ap (λ n. n .recorded) (totals-count .at-restore interval bytes seqs secs t (sym (h .0))) in
       let count : t .count ≡ length (pairsRead (readTable bytes) .seqs) = sym (kept-fit w (S .good) .0) ∙ ap (λ p. length (p .seqs)) kept in
       record {
         hides = H;

@@ -2,13 +2,13 @@
 use mathlib.Core.Path.{_≡_, refl, sym, ap, ap₂, _∙_}
 use mathlib.Core.Bool.{Bool, true, false, cond}
 use mathlib.Core.List.{List, [], _∷_, _++_, map}
-use Prim.Native.Nat.{ℕ, zero, suc, _+_, _-_, _≤_, _<_}
+use Prim.Native.Nat.{ℕ, _+_, _-_, _≤_, _<_}
 use native.Mathlib.Omega.{arith}
 use borrow.Author.Tests.{ne-eqb}
 use lib.Dec.{ltb}
 use lib.IntN.{ℤ, pos}
 use lib.ListN.{length, getD, take}
-use lib.Seq.{length-take-le, getD-take}
+use lib.Seq.{length-take-le}
 use lib.Signed.{ltZ}
 use Rattle.told.specs.Told.{gave}
 use Rattle.limits.specs.Settings.{roomOf}
@@ -22,19 +22,11 @@ use Rattle.offers.specs.Whole.{Table, checkIn}
 use Rattle.offers.specs.Offer.{recorded, offerTo, offeredTo}
 use Rattle.offers.proofs.Preserved.{taken, recorded-seqs, recorded-secs, after-low, after-last}
 use Rattle.log.specs.Pairs.{pairOf, recordsOf}
-use Rattle.log.proofs.Records.{front-length}
+use Rattle.log.proofs.Records.{front-length, front-at}
 use Rattle.halving.specs.History.{keptPairs}
 use Rattle.halving.specs.Coarse.{pairAt}
 
 -- ---- the records of two lists of one length
-
-pub records-at : (a : List ℕ) (b : List ℤ) (i : ℕ) → length a ≡ length b → pairAt (recordsOf a b) i ≡ pairOf (getD a i 0) (getD b i (pos 0))
-unfolding recordsOf
-records-at [] [] i e = refl
-records-at [] (s ∷ b) i e = absurd (omega arith)
-records-at (q ∷ a) [] i e = absurd (omega arith)
-records-at (q ∷ a) (s ∷ b) zero e = refl
-records-at (q ∷ a) (s ∷ b) (suc i) e = let e′ : length a ≡ length b = omega arith in records-at a b i e′
 
 pub records-seqs : (a : List ℕ) (b : List ℤ) → length a ≡ length b → map (λ r. r .seq .0) (recordsOf a b) ≡ a
 unfolding recordsOf
@@ -97,9 +89,7 @@ module _ (w : Table) (good : checkIn w ≡ gave tt) where
 
   -- kept pair i is what the arrays hold there
   pub kept-at : (i : ℕ) → i < w .state .count → pairAt (keptPairs w) i ≡ pairOf (getD (w .seqs) i 0) (getD (w .secs) i (pos 0))
-  kept-at i h =
-      records-at (take (w .state .count) (w .seqs)) (take (w .state .count) (w .secs)) i kept-same
-      ∙ ap₂ pairOf (getD-take (w .state .count) (w .seqs) i 0 h) (getD-take (w .state .count) (w .secs) i (pos 0) h)
+  kept-at i h = sym (front-at (w .state .count) (w .seqs) (w .secs) fit fit′ i h)
 
   -- the kept pairs are in order, by both keys
   pub seqs-in-order : (x y : ℕ) → x ≤ y → y < length (keptPairs w) → ltb (pairAt (keptPairs w) y .seq .0) (pairAt (keptPairs w) x .seq .0) ≡ false

@@ -24,12 +24,13 @@ use Rattle.offers.specs.Whole.{Table, whole, checkIn}
 use Rattle.offers.specs.Offer.{Outcome, recorded, wentBack, tooSoon, pairRefused, counting, offerTo, offeredTo}
 use Rattle.offers.proofs.Counted.{counts-so}
 use Rattle.offers.proofs.Preserved.{taken, stays-good}
+use Rattle.log.proofs.Run.{noRecord}
 use Rattle.theorems.specs.Run.{step, ranTo}
 use Rattle.theorems.specs.Totals.{wasRecorded}
 use Rattle.halving.specs.History.{keptPairs, after, records, halves, now, recordedOf, halvingsOf}
 use Rattle.halving.specs.Coarse.{pairAt, Places}
 use Rattle.halving.proofs.Level.{level, level-mono, level-count, bound, bound-some, bound-falls, bound-twice}
-use Rattle.halving.proofs.Spread.{none, Spread, spread-all, spread-more, spread-halved}
+use Rattle.halving.proofs.Spread.{Spread, spread-all, spread-more, spread-halved}
 use Rattle.halving.proofs.Kept.{kept-count, few, seqs-in-order, secs-in-order, kept-recorded, seq-on, sec-on}
 use Rattle.halving.proofs.Asked.{InOrder}
 
@@ -40,12 +41,12 @@ order-more : {K : Type 0} (lt : K → K → Bool) (O : Order lt) (key : TrackedS
     → InOrder lt key rec → (0 < length rec → lt (key r) (key (pairAt rec (length rec - 1))) ≡ false) → InOrder lt key (rec ++ (r ∷ []))
 order-more lt O key rec r sorted on x y h l =
     ⊎-elim
-    (λ (b : y < length rec). rw (List·getD-append rec (r ∷ []) none y b, List·getD-append rec (r ∷ []) none x (omega arith)) (sorted x y h b))
+    (λ (b : y < length rec). rw (List·getD-append rec (r ∷ []) noRecord y b, List·getD-append rec (r ∷ []) noRecord x (omega arith)) (sorted x y h b))
     (λ (b : length rec ≤ y).
     let e : y ≡ length rec = omega (arith, length-append rec (r ∷ [])) in
-    rw (e, getD-append-seam rec r [] none) (⊎-elim (λ (s : x ≡ length rec). rw (s, getD-append-seam rec r [] none) (itself lt O (key r)))
+    rw (e, getD-append-seam rec r [] noRecord) (⊎-elim (λ (s : x ≡ length rec). rw (s, getD-append-seam rec r [] noRecord) (itself lt O (key r)))
     (λ (s : x < length rec).
-    rw (List·getD-append rec (r ∷ []) none x s)
+    rw (List·getD-append rec (r ∷ []) noRecord x s)
     (further lt O (key (pairAt rec x)) (key (pairAt rec (length rec - 1))) (key r) (sorted x (length rec - 1) (omega arith) (omega arith)) (on (omega arith))))
     (eq-or-lt-of-le (omega arith))))
     (below-or y (length rec))
@@ -63,7 +64,7 @@ module _ (half : ℕ) (some : 0 < half) where
     pub counted : length rec ≡ length kept + k * half
     pub full : 0 < k → half < length kept
 
-  pub stands-all : (l : List TrackedSeq) → Stands 0 l l
+  stands-all : (l : List TrackedSeq) → Stands 0 l l
   stands-all l = record { spread = spread-all (bound half some 0) l (bound-some half some 0); counted = omega arith; full = λ h. absurd (omega arith) }
 
   pub levelled : (k : ℕ) (rec kept : List TrackedSeq) → Stands k rec kept → length kept ≤ half + half → level half some (length rec) ≡ k
@@ -95,7 +96,7 @@ module _ (half : ℕ) (some : 0 < half) where
         })
 
     -- in a table of this capacity that keeps n
-    pub stands-thinned : (cap n : ℕ) → cap ≡ half + half → length kept ≡ n → n ≤ half + half
+    stands-thinned : (cap n : ℕ) → cap ≡ half + half → length kept ≡ n → n ≤ half + half
         → Stands (cond (ltb cap (n + 1)) (suc k) k) (rec ++ (r ∷ [])) (cond (ltb cap (n + 1)) (evens (kept ++ (r ∷ []))) (kept ++ (r ∷ [])))
     stands-thinned cap n even e fits =
         ⊎-elim (λ (l : n < cap). rw (le-ltb cap (n + 1) (omega arith)) stands-more) (λ (l : cap ≤ n). rw (lt-ltb cap (n + 1) (omega arith)) (stands-halved (omega arith))) (below-or n cap)
@@ -139,7 +140,7 @@ module _ (half : ℕ) (some : 0 < half) where
       by-secs = H .by-secs;
     }
 
-    pub holds-after : Holds (after w r) (cond (records w r) (rec ++ (r ∷ [])) rec) (cond (halves w r) (suc k) k)
+    holds-after : Holds (after w r) (cond (records w r) (rec ++ (r ∷ [])) rec) (cond (halves w r) (suc k) k)
     unfolding step
     holds-after = go (offerTo w (r .seq) (r .ts)) refl
       where

@@ -8,19 +8,14 @@ use native.Mathlib.Nat.{eq-or-lt-of-le}
 use native.Mathlib.Omega.{arith}
 use borrow.Author.Tests.{le-ltb, lt-ltb}
 use lib.Dec.{ltb}
-use lib.IntN.{pos}
 use lib.ListN.{length, length-append, List·getD-append}
 use lib.Seq.{getD-append-seam}
 use Rattle.order.proofs.Bools.{below-or}
 use Rattle.tracker.specs.declared.TrackedSeq.{TrackedSeq}
 use Rattle.keeping.specs.Keep.{evens}
 use Rattle.keeping.proofs.Thinned.{getD-evens, length-evens}
-use Rattle.log.specs.Pairs.{pairOf}
+use Rattle.log.proofs.Run.{noRecord}
 use Rattle.halving.specs.Coarse.{Places}
-
--- what stands past a list's end
-abbrev pub none : TrackedSeq
-none = pairOf 0 (pos 0)
 
 -- at each recorded pair x, or after it by fewer than g x, stands one that is kept
 pub record Spread (g : ℕ → ℕ) (rec kept : List TrackedSeq) : Type 0 where
@@ -36,7 +31,7 @@ spread-all g l least = record {
 
 module _ {rec kept : List TrackedSeq} (P : Places rec kept) where
   -- a later kept pair was recorded later
-  pub later : (i j : ℕ) → i < j → j < length kept → P .at i < P .at j
+  later : (i j : ℕ) → i < j → j < length kept → P .at i < P .at j
   later i zero h l = absurd (omega arith)
   later i (suc j) h l =
       let s : j + 1 ≡ suc j = omega arith in
@@ -92,10 +87,10 @@ module _ (g : ℕ → ℕ) (rec kept : List TrackedSeq) (S : Spread g rec kept) 
             ⊎-elim
             (λ (l : i < length kept).
             let e = S .places .each i l in
-            rw (to-old i l) (omega (arith, more rec, e .0), List·getD-append kept (r ∷ []) none i l ∙ e .1 ∙ sym (List·getD-append rec (r ∷ []) none (at i) (e .0))))
+            rw (to-old i l) (omega (arith, more rec, e .0), List·getD-append kept (r ∷ []) noRecord i l ∙ e .1 ∙ sym (List·getD-append rec (r ∷ []) noRecord (at i) (e .0))))
             (λ (l : length kept ≤ i).
             let e : i ≡ length kept = omega (arith, more kept) in
-            rw (to-new i l, e) (omega (arith, more rec), getD-append-seam kept r [] none ∙ sym (getD-append-seam rec r [] none)))
+            rw (to-new i l, e) (omega (arith, more rec), getD-append-seam kept r [] noRecord ∙ sym (getD-append-seam rec r [] noRecord)))
             (below-or i (length kept));
         in-order = λ i h.
             ⊎-elim (λ (l : i + 1 < length kept). rw (to-old i (omega arith), to-old (i + 1) l) (S .places .in-order i l))
@@ -121,10 +116,10 @@ module _ (g : ℕ → ℕ) (rec kept : List TrackedSeq) (S : Spread g rec kept) 
     long : length (evens kept) ≡ half + 1
     long = length-evens kept ∙ omega arith
 
-    pub places-halved : Places rec (evens kept)
+    places-halved : Places rec (evens kept)
     places-halved = record {
       at = λ i. at (i + i);
-      each = λ i h. let e = S .places .each (i + i) (omega (arith, long)) in (e .0, getD-evens none kept i ∙ e .1);
+      each = λ i h. let e = S .places .each (i + i) (omega (arith, long)) in (e .0, getD-evens noRecord kept i ∙ e .1);
       in-order = λ i h. later (S .places) (i + i) (i + 1 + (i + 1)) (omega arith) (omega (arith, long));
       first = λ h. (omega (arith, long), S .places .first h .1);
       newest = λ h.

@@ -7,8 +7,7 @@ use Rattle.offers.specs.Whole.{whole}
 use Rattle.log.specs.Pairs.{recordsOf}
 use Rattle.pair_walk.specs.Inner.{frontOf}
 use Rattle.log.proofs.Run.{Upto, started-as, live, in-list, next, ended}
-use Rattle.log.proofs.Records.{front-length}
-use Rattle.pair_walk.proofs.Records.{front-at}
+use Rattle.log.proofs.Records.{front-length, front-at}
 use Rattle.log.specs.declared.inner.Progress.{Progress}
 use Rattle.pair_walk.proofs.inner.pairs_good.Statement.{statement}
 use Rattle.pair_walk.proofs.inner.pairs_good.Tie as tie
