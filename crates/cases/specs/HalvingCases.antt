@@ -35,8 +35,8 @@ pub record HalvingCases : Type 0 where
   pub asked :
       (findTsIn (now (empty 4) (firstOf 7)) (seqNo 4) RoundDown ≡ gave (partner (second 10)))
       × (findTsIn (now (empty 4) (firstOf 7)) (seqNo 4) RoundUp ≡ gave (partner (second 50)))
-  -- the eleventh pair makes the fourth halving; (8,80), three recorded pairs back, is answered rounding up by the next one, and rounding down by the first pair, seven before it: how far back it
-  -- lies itself is no bound there
+  -- the eleventh pair makes the fourth halving; (8,80), three recorded pairs back, is answered rounding up by the next one, and rounding down by the first pair, seven before it: that it lies at
+  -- most 2 times half the capacity back does not bound that, as 2^2 does not divide 2
   pub four :
       Makes 4 (firstOf 11) 4 (firstOf 11) (pair 1 10 ∷ pair 9 90 ∷ pair 11 110 ∷ [])
       × (findTsIn (now (empty 4) (firstOf 11)) (seqNo 8) RoundUp ≡ gave (partner (second 90)))
@@ -45,14 +45,14 @@ pub record HalvingCases : Type 0 where
   pub fresh :
       historyOf (offeredAll 4 0 (firstOf 5)) (pair 6 60 ∷ pair 7 70 ∷ [])
       ≡ past 4 1 (pair 1 10 ∷ pair 3 30 ∷ pair 5 50 ∷ pair 6 60 ∷ pair 7 70 ∷ []) (pair 1 10 ∷ pair 5 50 ∷ pair 7 70 ∷ [])
-  -- at capacity 8,192: none with 8,192 recorded pairs, one with 8,193 to 12,288, two from 12,289 on, 257 with 1,056,769
+  -- at capacity 8,192: none with 8,192 recorded pairs, one with 8,193 and with 12,288, two with 12,289, 257 with 1,056,769
   pub counts :
       (halvingsAt 8192 8192 ≡ 0) × (halvingsAt 8192 8193 ≡ 1) × (halvingsAt 8192 12288 ≡ 1) × (halvingsAt 8192 12289 ≡ 2) × (halvingsAt 8192 1056769 ≡ 257)
   -- why odd capacities are left out: at capacity 1 the second pair makes a halving that drops itself, the newest
   pub odd : Makes 1 (firstOf 2) 1 (firstOf 2) (pair 1 10 ∷ []) × (Coarse (past 1 1 (firstOf 2) (pair 1 10 ∷ [])) → ⊥)
   -- and at capacity 3, P9's, a sequence below the newest recorded one is then recorded
   pub odd-order : Makes 3 (firstOf 4 ++ (pair 3 45 ∷ [])) 1 (firstOf 4 ++ (pair 3 45 ∷ [])) (pair 1 10 ∷ pair 3 30 ∷ pair 3 45 ∷ [])
-  -- and why 0 is: each pair makes a halving, and the newest is dropped
+  -- and why 0 is: each pair makes a halving, and each after the first is dropped by its own
   pub zero : Makes 0 (firstOf 2) 2 (firstOf 2) (pair 1 10 ∷ []) × (Coarse (past 0 2 (firstOf 2) (pair 1 10 ∷ [])) → ⊥)
   -- what may not be kept of five recorded pairs after one halving: the odd positions; the even ones without the newest; the first and the newest alone, four apart
   pub excluded :

@@ -1,13 +1,14 @@
 -- What is asked of the kept pairs, beside the same asked of all recorded ones.
-use mathlib.Core.Path.{_≡_, ap, _∙_}
+use mathlib.Core.Path.{_≡_, sym, ap, _∙_}
 use mathlib.Core.Logic.{_↔_, _⊎_, inl, inr, ⊎-elim}
 use mathlib.Core.Bool.{Bool, true, false, not}
 use mathlib.Core.List.{List, map}
 use Prim.Native.Nat.{ℕ, _+_, _-_, _*_, _/_, _^_, _≤_, _<_}
-use native.Mathlib.Nat.{one-le-pow}
+use native.Mathlib.Nat.{one-le-pow, mul-assoc}
 use native.Mathlib.Omega.{arith}
 use borrow.Author.Tests.{not-true}
 use lib.ListN.{length, getD, List·getD-map}
+use lib.Pow.{pow-add}
 use Rattle.order.specs.First.{first, final}
 use Rattle.order.proofs.Bools.{other, true-false, below-or}
 use Rattle.order.proofs.First.{first-none, first-within, first-holds, first-least, first-out, first-same}
@@ -17,9 +18,10 @@ use Rattle.tracker.specs.declared.TrackedSeq.{TrackedSeq}
 use Rattle.lookup.specs.declared.FindOption.{FindOption}
 use Rattle.lookup.specs.declared.FindOption.the-variants.{RoundUp, RoundDown}
 use Rattle.log.proofs.Run.{noRecord}
-use Rattle.halving.specs.Coarse.{pairAt, Places}
+use Rattle.halving.specs.Coarse.{pairAt, Places, InOrder}
 use Rattle.halving.specs.Asked.{Close, named}
 use Rattle.halving.proofs.Level.{level, level-step, bound, bound-falls, bound-most}
+use Rattle.halving.proofs.Exact.{Exact, kept-below}
 use Rattle.halving.proofs.Spread.{Spread, rises, last-is, near}
 
 -- ---- a test of places, asked of all recorded pairs and of the kept ones
@@ -117,17 +119,28 @@ module _ (half : ℕ) (some : 0 < half) (k : ℕ) {rec kept : List TrackedSeq} (
     pub down-close : (capacity : ℕ) → capacity / 2 ≡ half → Close (record { capacity = capacity; halvings = k; recorded = rec; kept = kept }) (at i) y
     down-close capacity two = (from, before-next k (near-all i), λ j b. before-next j (λ h. near-aged i j h (rw two at b)))
 
+    -- it is the last
+    reached : (m : ℕ) → m < length kept → at m ≤ y → at m ≤ at i
+    reached m lm high =
+        ⊎-elim (λ (b : i < m). absurd (omega (arith, next (omega arith), rises (S .places) (i + 1) m (omega arith) lm))) (λ (b : m ≤ i). rises (S .places) m i b l) (below-or i m)
+
     -- where y, and the 2^j - 1 recorded before it, lie at most j halves of the capacity back
     pub down-aged : (j : ℕ) → aback y + 2 ^ j ≤ j * half + 1 → y < at i + 2 ^ j
     down-aged j b =
         let one = one-le-pow j 2 (omega arith) in
         ⊎-elim (λ (h : y < 2 ^ j). omega arith)
-        (λ (h : 2 ^ j ≤ y). let (m, lm, low, high) = S .up (y + 1 - 2 ^ j) (omega arith) in reached m lm low (omega (arith, aged (y + 1 - 2 ^ j) j (omega arith))))
+        (λ (h : 2 ^ j ≤ y). let (m, lm, low, high) = S .up (y + 1 - 2 ^ j) (omega arith) in omega (arith, low, reached m lm (omega (arith, high, aged (y + 1 - 2 ^ j) j (omega arith)))))
         (below-or y (2 ^ j))
-      where
-        reached : (m : ℕ) → m < length kept → y + 1 - 2 ^ j ≤ at m → at m ≤ y → y < at i + 2 ^ j
-        reached m lm low high =
-            ⊎-elim (λ (b : i < m). absurd (omega (arith, next (omega arith), rises (S .places) (i + 1) m (omega arith) lm))) (λ (b : m ≤ i). omega (arith, rises (S .places) m i b l)) (below-or i m)
+
+    -- where 2^j divides half the capacity, and y lies at most j halves of it back
+    pub down-dividing : Exact half some k rec kept at → (j q : ℕ) → half ≡ q * 2 ^ j → aback y ≤ j * half → y < at i + 2 ^ j
+    down-dividing E j q divides b =
+        let h = k - level half some (y + 1) in
+        let few : h ≤ j = omega (arith, levelled, level-step half some (y + 1) (length rec) j (omega arith)) in
+        let e : j ≡ j - h + h = omega arith in
+        let part : half ≡ q * 2 ^ (j - h) * 2 ^ h = divides ∙ ap (λ (n : ℕ). q * n) (ap (λ (n : ℕ). 2 ^ n) e ∙ pow-add 2 (j - h) h) ∙ sym (mul-assoc q (2 ^ (j - h)) (2 ^ h)) in
+        let (m, lm, low, high) = kept-below half some k rec kept at E y inside (q * 2 ^ (j - h)) part in
+        omega (arith, reached m lm low, high, aged y j b)
 
   -- the first kept pair not before y
   pub up-close : (i y : ℕ) → y < length rec → i < length kept → y ≤ at i → ((j : ℕ) → j < length kept → y ≤ at j → i ≤ j) → (capacity : ℕ) → capacity / 2 ≡ half
@@ -140,10 +153,6 @@ module _ (half : ℕ) (some : 0 < half) (k : ℕ) {rec kept : List TrackedSeq} (
           omega (arith, rises (S .places) i m (least m lm low) lm)
 
 -- ---- by keys
-
--- pairs in order by a key
-abbrev pub InOrder : {K : Type 0} → (K → K → Bool) → (TrackedSeq → K) → List TrackedSeq → Type 0
-InOrder lt key pairs = (x y : ℕ) → x ≤ y → y < length pairs → lt (key (pairAt pairs y)) (key (pairAt pairs x)) ≡ false
 
 module _ {K : Type 0} (lt : K → K → Bool) (O : Order lt) (key : TrackedSeq → K) where
   -- the tests of both roundings, by places

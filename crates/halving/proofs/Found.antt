@@ -23,12 +23,13 @@ use Rattle.lookup.proofs.Laws.{place-same, standing-same}
 use Rattle.offers.specs.Whole.{Table, checkIn}
 use Rattle.log.proofs.Run.{noRecord}
 use Rattle.halving.specs.History.{keptPairs, History}
-use Rattle.halving.specs.Coarse.{pairAt, Places}
+use Rattle.halving.specs.Coarse.{pairAt, Places, InOrder}
 use Rattle.halving.specs.Asked.{CloseBy, named, Answers}
 use Rattle.halving.proofs.Level.{level, bound}
+use Rattle.halving.proofs.Exact.{Exact}
 use Rattle.halving.proofs.Spread.{Spread}
 use Rattle.halving.proofs.Kept.{records-seqs, records-secs, kept-count, kept-same, kept-at}
-use Rattle.halving.proofs.Asked.{InOrder, down-close, down-aged, up-close, alike, found, found-down, found-up}
+use Rattle.halving.proofs.Asked.{down-close, down-dividing, down-aged, up-close, alike, found, found-down, found-up}
 
 -- ---- by the kept pairs
 
@@ -61,7 +62,7 @@ int-same (pos a) (negsuc b) e f = absurd (false≢true (sym f))
 int-same (negsuc a) (pos b) e f = absurd (false≢true (sym e))
 int-same (negsuc a) (negsuc b) e f = ap negsuc (nat-same a b f e)
 
-module _ (half : ℕ) (some : 0 < half) (k : ℕ) (rec kept : List TrackedSeq) (S : Spread (bound half some k) rec kept) (l : level half some (length rec) ≡ k) (capacity : ℕ) (two : capacity / 2 ≡ half) where
+module _ (half : ℕ) (some : 0 < half) (k : ℕ) (rec kept : List TrackedSeq) (S : Spread (bound half some k) rec kept) (l : level half some (length rec) ≡ k) (E : Exact half some k rec kept (S .places .at)) (capacity : ℕ) (two : capacity / 2 ≡ half) where
   pub answered : {K A : Type 0} (lt : K → K → Bool) (O : Order lt) (key : TrackedSeq → K) (value : TrackedSeq → A) → InOrder lt key rec
       → (x : K) (find : FindOption → Told (Partner A)) → ((opt : FindOption) → find opt ≡ gave (standing (λ i. value (pairAt kept i)) (length kept) (named lt (key noRecord) key opt kept x)))
       → Answers lt (key noRecord) key value (record { capacity = capacity; halvings = k; recorded = rec; kept = kept }) (S .places) x find
@@ -69,7 +70,8 @@ module _ (half : ℕ) (some : 0 < half) (k : ℕ) (rec kept : List TrackedSeq) (
     from-kept = finds;
     nothing-alike = alike lt O key (S .places) x sorted;
     close = close;
-    close-down = λ j h b. let f = found-down lt O key (S .places) x sorted h in down-aged half some k S l _ _ (f .0) h (f .1) (f .2) j (rw two at b);
+    close-down = λ j q h d b. let f = found-down lt O key (S .places) x sorted h in down-dividing half some k S l _ _ (f .0) h (f .1) (f .2) E j q (sym two ∙ d) (rw two at b);
+    close-down-any = λ j h b. let f = found-down lt O key (S .places) x sorted h in down-aged half some k S l _ _ (f .0) h (f .1) (f .2) j (rw two at b);
   }
     where
       close : (opt : FindOption) → named lt (key noRecord) key opt rec x < length rec

@@ -2,7 +2,7 @@
 use mathlib.Core.Path.{_≡_, sym, _∙_}
 use mathlib.Core.Logic.{⊎-elim}
 use Prim.Native.Nat.{ℕ, suc, _+_, _-_, _*_, _/_, _^_, _≤_, _<_}
-use native.Mathlib.Nat.{le-trans, one-le-pow, two-pow-succ, pow-le-pow-right, le-div-iff-mul-le, add-div-right, add-mul-div-right, div-eq-of-lt, div-mul-le-self, mul-le-mul-right, zero-mul}
+use native.Mathlib.Nat.{le-trans, one-le-pow, two-pow-succ, pow-le-pow-right, le-div-iff-mul-le, add-div-right, add-mul-div-right, div-eq-of-lt, div-mul-le-self, mul-le-mul-right, zero-mul, one-mul}
 use native.Mathlib.Omega.{arith}
 use borrow.Author.Tests.{le-leb, lt-leb}
 use Rattle.order.proofs.Bools.{below-or}
@@ -51,6 +51,16 @@ module _ (half : ℕ) (some : 0 < half) where
       rw (split, add-mul-div-right (n - half - 1) k some, div-eq-of-lt {n = n - half - 1} {m = half} (omega arith)) (omega arith))
       (λ (l : k ≤ 0). let m = mul-le-mul-right half l in div-eq-of-lt (omega (arith, m, zero-mul half)) ∙ omega arith)
       (below-or 0 k)
+
+  -- from where on recorded pair x has l halvings with it, if one at all
+  pub level-from : (x : ℕ) → 0 < level (x + 1) → level (x + 1) * half + half ≤ x
+  level-from x h =
+      let l = level (x + 1) in
+      let m = le-div-iff-mul-le {k = half} {x = l} {y = x + 1 - (half + half) + (half - 1)} some .0 (omega arith) in
+      omega (arith, m, mul-le-mul-right half h, one-mul half)
+
+  pub level-least : (x l : ℕ) → 0 < l → l * half + half ≤ x → l ≤ level (x + 1)
+  level-least x l h far = le-div-iff-mul-le {k = half} {x = l} {y = x + 1 - (half + half) + (half - 1)} some .1 (omega (arith, mul-le-mul-right half h, one-mul half))
 
   -- the halvings since recorded pair x was recorded, of k
   abbrev pub bound : ℕ → ℕ → ℕ

@@ -1,5 +1,6 @@
 -- The proof of the statement in specs/Halving.antt: `halving-hides` in Halving.
 mod Level
+mod Exact
 mod Spread
 mod Kept
 mod Asked

@@ -28,11 +28,11 @@ use Rattle.log.proofs.Run.{noRecord}
 use Rattle.theorems.specs.Run.{step, ranTo}
 use Rattle.theorems.specs.Totals.{wasRecorded}
 use Rattle.halving.specs.History.{keptPairs, after, records, halves, now, recordedOf, halvingsOf}
-use Rattle.halving.specs.Coarse.{pairAt, Places}
+use Rattle.halving.specs.Coarse.{pairAt, Places, InOrder}
 use Rattle.halving.proofs.Level.{level, level-mono, level-count, bound, bound-some, bound-falls, bound-twice}
-use Rattle.halving.proofs.Spread.{Spread, spread-all, spread-more, spread-halved}
+use Rattle.halving.proofs.Spread.{Spread, spread-all, all-at, spread-more, more-old, more-new, spread-halved, halved-at}
 use Rattle.halving.proofs.Kept.{kept-count, few, seqs-in-order, secs-in-order, kept-recorded, seq-on, sec-on}
-use Rattle.halving.proofs.Asked.{InOrder}
+use Rattle.halving.proofs.Exact.{Exact, exact-same, exact-all, exact-more, exact-halved}
 
 -- ---- one pair more
 
@@ -63,9 +63,15 @@ module _ (half : ℕ) (some : 0 < half) where
     pub spread : Spread (bound half some k) rec kept
     pub counted : length rec ≡ length kept + k * half
     pub full : 0 < k → half < length kept
+    pub exact : Exact half some k rec kept (spread .places .at)
 
-  stands-all : (l : List TrackedSeq) → Stands 0 l l
-  stands-all l = record { spread = spread-all (bound half some 0) l (bound-some half some 0); counted = omega arith; full = λ h. absurd (omega arith) }
+  stands-all : (l : List TrackedSeq) → length l ≤ half + half → Stands 0 l l
+  stands-all l few = record {
+    spread = spread-all (bound half some 0) l (bound-some half some 0);
+    counted = omega arith;
+    full = λ h. absurd (omega arith);
+    exact = exact-same half some 0 l l (λ i. i) _ (all-at (bound half some 0) l (bound-some half some 0)) (exact-all half some l few);
+  }
 
   pub levelled : (k : ℕ) (rec kept : List TrackedSeq) → Stands k rec kept → length kept ≤ half + half → level half some (length rec) ≡ k
   levelled k rec kept S fits = level-count half some (length rec) (length kept) k (S .counted) fits (S .full)
@@ -74,11 +80,25 @@ module _ (half : ℕ) (some : 0 < half) where
     long : (l : List TrackedSeq) → length (l ++ (r ∷ [])) ≡ length l + 1
     long l = length-append l (r ∷ [])
 
-    stands-more : Stands k (rec ++ (r ∷ [])) (kept ++ (r ∷ []))
-    stands-more = record {
-      spread = spread-more (bound half some k) rec kept (S .spread) r (bound-some half some k);
+    spread-with : Spread (bound half some k) (rec ++ (r ∷ [])) (kept ++ (r ∷ []))
+    spread-with = spread-more (bound half some k) rec kept (S .spread) r (bound-some half some k)
+
+    with-old : (i : ℕ) → i < length kept → spread-with .places .at i ≡ S .spread .places .at i
+    unfolding spread-with
+    with-old = more-old (bound half some k) rec kept (S .spread) r (bound-some half some k)
+
+    with-new : spread-with .places .at (length kept) ≡ length rec
+    unfolding spread-with
+    with-new = more-new (bound half some k) rec kept (S .spread) r (bound-some half some k)
+
+    stands-more : length kept < half + half → Stands k (rec ++ (r ∷ [])) (kept ++ (r ∷ []))
+    stands-more fits = record {
+      spread = spread-with;
       counted = omega (arith, long rec, long kept, S .counted);
       full = λ h. omega (arith, long kept, S .full h);
+      exact =
+          exact-more half some k rec kept (S .spread .places .at) (S .exact) (S .counted) r (spread-with .places .at) with-old with-new
+          (level-count half some (length rec + 1) (length kept + 1) k (omega (arith, S .counted)) (omega arith) (λ h. omega (arith, S .full h)));
     }
 
     stands-halved : length kept ≡ half + half → Stands (suc k) (rec ++ (r ∷ [])) (evens (kept ++ (r ∷ [])))
@@ -86,20 +106,27 @@ module _ (half : ℕ) (some : 0 < half) where
         let l = kept ++ (r ∷ []) in
         let odd : length l ≡ half + half + 1 = omega (arith, long kept) in
         let less : length (evens l) ≡ half + 1 = length-evens l ∙ omega arith in
+        let low = levelled k rec kept S (omega arith) in
+        let top : level half some (length rec + 1) ≡ k + 1 = level-count half some (length rec + 1) (half + 1) (k + 1) (omega (arith, S .counted, add-mul k 1 half, one-mul half)) (omega arith) (λ h. omega arith) in
         let s : k + 1 ≡ suc k = omega arith in
         rw (← s) (record {
-          spread =
-              spread-halved (bound half some k) (rec ++ (r ∷ [])) l (stands-more .spread) half odd (bound half some (k + 1)) (bound-falls half some k) (bound-some half some (k + 1))
-              (λ x h. bound-twice half some k x (omega (arith, levelled k rec kept S (omega arith), level-mono half some (x + 1) (length rec) (omega (arith, long rec)))));
+          spread = spread-halved (bound half some k) (rec ++ (r ∷ [])) l spread-with half odd (bound half some (k + 1)) (bound-falls half some k) (bound-some half some (k + 1)) (twice low);
           counted = omega (arith, long rec, less, S .counted, add-mul k 1 half, one-mul half);
           full = λ h. omega (arith, less);
+          exact =
+              exact-same half some (k + 1) (rec ++ (r ∷ [])) (evens l) (λ i. spread-with .places .at (i + i)) _
+              (halved-at (bound half some k) (rec ++ (r ∷ [])) l spread-with half odd (bound half some (k + 1)) (bound-falls half some k) (bound-some half some (k + 1)) (twice low))
+              (exact-halved half some k rec kept (S .spread .places .at) (S .exact) (S .counted) r (spread-with .places .at) with-old with-new (λ i h. S .spread .places .each i h .0) e low top);
         })
+      where
+        twice : level half some (length rec) ≡ k → (x : ℕ) → x + 1 < length (rec ++ (r ∷ [])) → bound half some k x + bound half some k x ≤ bound half some (k + 1) x
+        twice low x h = bound-twice half some k x (omega (arith, low, level-mono half some (x + 1) (length rec) (omega (arith, long rec))))
 
     -- in a table of this capacity that keeps n
     stands-thinned : (cap n : ℕ) → cap ≡ half + half → length kept ≡ n → n ≤ half + half
         → Stands (cond (ltb cap (n + 1)) (suc k) k) (rec ++ (r ∷ [])) (cond (ltb cap (n + 1)) (evens (kept ++ (r ∷ []))) (kept ++ (r ∷ [])))
     stands-thinned cap n even e fits =
-        ⊎-elim (λ (l : n < cap). rw (le-ltb cap (n + 1) (omega arith)) stands-more) (λ (l : cap ≤ n). rw (lt-ltb cap (n + 1) (omega arith)) (stands-halved (omega arith))) (below-or n cap)
+        ⊎-elim (λ (l : n < cap). rw (le-ltb cap (n + 1) (omega arith)) (stands-more (omega arith))) (λ (l : cap ≤ n). rw (lt-ltb cap (n + 1) (omega arith)) (stands-halved (omega arith))) (below-or n cap)
 
   -- ---- one offer more
 
@@ -112,7 +139,7 @@ module _ (half : ℕ) (some : 0 < half) where
 
   -- from any good table, its pairs taken as recorded
   pub holds-first : (w : Table) → checkIn w ≡ gave tt → w .state .capacity ≡ half + half → Holds w (keptPairs w) 0
-  holds-first w good even = record { good = good; even = even; stands = stands-all (keptPairs w); by-seqs = seqs-in-order w good; by-secs = secs-in-order w good }
+  holds-first w good even = record { good = good; even = even; stands = stands-all (keptPairs w) (omega (arith, kept-count w good, few w good half some even)); by-seqs = seqs-in-order w good; by-secs = secs-in-order w good }
 
   module _ (w : Table) (rec : List TrackedSeq) (k : ℕ) (H : Holds w rec k) (r : TrackedSeq) where
     places : Places rec (keptPairs w)

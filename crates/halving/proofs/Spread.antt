@@ -29,6 +29,10 @@ spread-all g l least = record {
   up = λ x h. (x, h, omega arith, omega (arith, least x));
 }
 
+pub all-at : (g : ℕ → ℕ) (l : List TrackedSeq) (least : (x : ℕ) → 1 ≤ g x) (i : ℕ) → spread-all g l least .places .at i ≡ i
+unfolding spread-all
+all-at g l least i = refl
+
 module _ {rec kept : List TrackedSeq} (P : Places rec kept) where
   -- a later kept pair was recorded later
   later : (i j : ℕ) → i < j → j < length kept → P .at i < P .at j
@@ -111,6 +115,14 @@ module _ (g : ℕ → ℕ) (rec kept : List TrackedSeq) (S : Spread g rec kept) 
           (below-or x (length rec));
     }
 
+    pub more-old : (i : ℕ) → i < length kept → spread-more .places .at i ≡ at i
+    unfolding spread-more
+    more-old = to-old
+
+    pub more-new : spread-more .places .at (length kept) ≡ length rec
+    unfolding spread-more
+    more-new = to-new (length kept) (omega arith)
+
   -- every second one is dropped, of an odd number
   module _ (half : ℕ) (odd : length kept ≡ half + half + 1) where
     long : length (evens kept) ≡ half + 1
@@ -153,3 +165,8 @@ module _ (g : ℕ → ℕ) (rec kept : List TrackedSeq) (S : Spread g rec kept) 
           (half, omega (arith, long), omega arith, omega (arith, least x)))
           (below-or (x + 1) (length rec));
     }
+
+    pub halved-at : (g′ : ℕ → ℕ) (falls : (x y : ℕ) → x ≤ y → g y ≤ g x) (least : (x : ℕ) → 1 ≤ g′ x) (twice : (x : ℕ) → x + 1 < length rec → g x + g x ≤ g′ x) (i : ℕ)
+        → spread-halved g′ falls least twice .places .at i ≡ at (i + i)
+    unfolding spread-halved places-halved
+    halved-at g′ falls least twice i = refl

@@ -24,7 +24,7 @@ CloseBy RoundUp h answering would = Close h would answering
 
 -- by keys of any type with an order test `lt`; d is what a key past the end would be
 module _ {K : Type 0} (lt : K → K → Bool) (d : K) (key : TrackedSeq → K) where
-  -- the pair among these that answers, by the rule of lookups; their number where none does
+  -- the place, among these pairs, of the one that answers by the rule of lookups; their number where none does
   abbrev pub named : FindOption → List TrackedSeq → K → ℕ
   named opt pairs x = place lt d opt (map key pairs) (length pairs) x
 
@@ -37,8 +37,11 @@ module _ {K : Type 0} (lt : K → K → Bool) (d : K) (key : TrackedSeq → K) w
     -- else the pair that answers is close to the one that would
     pub close : (opt : FindOption) → named opt (h .recorded) x < length (h .recorded)
         → (named opt (h .kept) x < length (h .kept)) × CloseBy opt h (p .at (named opt (h .kept) x)) (named opt (h .recorded) x)
-    -- rounding down, also by how far back the one lies that would: where it and the 2^j - 1 recorded before it lie at most j times half the capacity back, it is fewer than 2^j on
-    pub close-down : (j : ℕ) → named RoundDown (h .recorded) x < length (h .recorded) → back h (named RoundDown (h .recorded) x) + 2 ^ j ≤ j * (h .capacity / 2) + 1
+    -- rounding down, also by how far back the one lies that would: at most j times half the capacity, where 2^j divides that half; then the pair that answers stands fewer than 2^j before it
+    pub close-down : (j q : ℕ) → named RoundDown (h .recorded) x < length (h .recorded) → h .capacity / 2 ≡ q * 2 ^ j → back h (named RoundDown (h .recorded) x) ≤ j * (h .capacity / 2)
+        → named RoundDown (h .recorded) x < p .at (named RoundDown (h .kept) x) + 2 ^ j
+    -- and whatever divides it, where the 2^j - 1 recorded before it lie so far back, too
+    pub close-down-any : (j : ℕ) → named RoundDown (h .recorded) x < length (h .recorded) → back h (named RoundDown (h .recorded) x) + 2 ^ j ≤ j * (h .capacity / 2) + 1
         → named RoundDown (h .recorded) x < p .at (named RoundDown (h .kept) x) + 2 ^ j
 
 -- the corollary: the key of each recorded pair y is answered, rounding down or up, by a kept pair i that stands fewer than 2^k recorded pairs from z, a recorded pair of the same key

@@ -1,7 +1,8 @@
 -- Where the pairs that are kept stand among those that were recorded, and how far apart.
 use Prim.Native.Nat.{ℕ, _+_, _-_, _*_, _/_, _^_, _≤_, _<_}
 use mathlib.Core.Path.{_≡_}
-use mathlib.Core.Bool.{cond}
+use mathlib.Core.Bool.{Bool, false, cond}
+use mathlib.Core.Logic.{_↔_}
 use mathlib.Core.List.{List}
 use lib.Dec.{leb}
 use lib.IntN.{pos}
@@ -25,7 +26,7 @@ pub record Places (recorded kept : List TrackedSeq) : Type 0 where
   pub first : 0 < length recorded → (0 < length kept) × (at 0 ≡ 0)
   pub newest : 0 < length recorded → at (length kept - 1) ≡ length recorded - 1
 
--- how many recorded pairs kept pair i and its next neighbour stand apart: 1 where none was recorded between them
+-- how many recorded pairs kept pair i and its next neighbour stand apart: 1 where none was recorded between them (nothing is cut off at 0, by `in-order`)
 abbrev pub apart : {recorded kept : List TrackedSeq} → Places recorded kept → ℕ → ℕ
 apart p i = p .at (i + 1) - p .at i
 
@@ -44,8 +45,15 @@ halvingsAt capacity r = cond (leb r capacity) 0 (1 + (r - capacity - 1) / (capac
 abbrev pub back : History → ℕ → ℕ
 back h x = length (h .recorded) - 1 - x
 
+-- so many of them had been made when recorded pair x was recorded, its own among them
+abbrev pub madeBy : History → ℕ → ℕ
+madeBy h x = halvingsAt (h .capacity) (x + 1)
+
 pub record Halved (h : History) : Type 0 where
   pub coarse : Coarse h
+  -- which pairs are kept is had from their places alone: kept pair i is recorded pair x exactly where x is half the capacity for each halving made by then, and i times 2^(the halvings since)
+  pub exactly : (i x : ℕ)
+      → ((i < length (h .kept)) × (coarse .places .at i ≡ x)) ↔ ((x < length (h .recorded)) × (x ≡ madeBy h x * (h .capacity / 2) + i * 2 ^ (h .halvings - madeBy h x)))
   -- the number of halvings is had from that of the recorded pairs
   pub how-many : h .halvings ≡ halvingsAt (h .capacity) (length (h .recorded))
   -- each has dropped half the capacity
@@ -53,7 +61,11 @@ pub record Halved (h : History) : Type 0 where
   -- two neighbours of which the older lies at most j times half the capacity back stand at most 2^j recorded pairs apart
   pub by-age : (i j : ℕ) → i + 1 < length (h .kept) → back h (coarse .places .at i) ≤ j * (h .capacity / 2) → apart (coarse .places) i ≤ 2 ^ j
 
--- e is the history up to some moment, and h up to a later one: two neighbours that were both recorded after that moment stand at most 2^(the halvings since) recorded pairs apart; and so do two
+-- pairs in order by a key, with an order test `lt`
+abbrev pub InOrder : {K : Type 0} → (K → K → Bool) → (TrackedSeq → K) → List TrackedSeq → Type 0
+InOrder lt key pairs = (x y : ℕ) → x ≤ y → y < length pairs → lt (key (pairAt pairs y)) (key (pairAt pairs x)) ≡ false
+
+-- e is the history by the first of some offers, and h by all: two neighbours that were both recorded after the first of them stand at most 2^(the halvings since) recorded pairs apart; and so do two
 -- of which the older was the newest then
 abbrev pub Since : (e h : History) → Places (h .recorded) (h .kept) → Type 0
 Since e h p = (i : ℕ) → i + 1 < length (h .kept) → length (e .recorded) ≤ p .at i + 1 → apart p i ≤ 2 ^ (h .halvings - e .halvings)

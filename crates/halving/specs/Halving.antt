@@ -1,7 +1,7 @@
 -- How much halving can hide, at every even capacity from 2 up.
 use Prim.Native.Nat.{ℕ, _+_, _≤_, _<_}
 use mathlib.Core.Path.{_≡_}
-use mathlib.Core.Bool.{true, cond}
+use mathlib.Core.Bool.{true, false, cond}
 use mathlib.Core.List.{List, [], _∷_, _++_}
 use lib.Dec.{ltb}
 use lib.IntN.{ℤ, pos}
@@ -21,8 +21,8 @@ use Rattle.offers.specs.Whole.{Table, whole, checkIn}
 use Rattle.log.specs.Pairs.{recordsOf}
 use Rattle.restoring.specs.Restore.{readTable, RestoresAt}
 use Rattle.restoring.specs.declared.Restored.the-variants as restored
-use Rattle.halving.specs.History.{keptPairs, after, records, halves, now, recordedOf, historyOf}
-use Rattle.halving.specs.Coarse.{halvingsAt, Halved, Since}
+use Rattle.halving.specs.History.{keptPairs, after, records, halves, now, recordedOf, halvingsOf, historyOf}
+use Rattle.halving.specs.Coarse.{halvingsAt, Halved, InOrder, Since}
 use Rattle.halving.specs.Asked.{Answers, AnswersRecorded}
 
 -- what `find_ts` and `find_seq` tell of a table
@@ -38,7 +38,10 @@ pub record Hides (w : Table) (rs : List TrackedSeq) : Type 0 where
   pub halved : Halved (historyOf w rs)
   -- and by the halvings since any moment
   pub since : (before later : List TrackedSeq) → rs ≡ before ++ later → Since (historyOf w before) (historyOf w rs) (halved .coarse .places)
-  -- the number of recorded pairs is had from the total: it is that of the pairs at the start and of the offers counted as recorded since
+  -- the recorded pairs are in order, by both keys (at an odd capacity they need not be)
+  pub seqs-in-order : InOrder ltb (λ r. r .seq .0) (historyOf w rs .recorded)
+  pub seconds-in-order : InOrder ltZ (λ r. r .ts .0) (historyOf w rs .recorded)
+  -- their number is had from the total: with the total at the start they are as many as the pairs at the start and the total now
   pub by-total : length (historyOf w rs .recorded) + w .state .totals .recorded ≡ w .state .count + now w rs .state .totals .recorded
   -- what a lookup answers, by any sequence and by any second
   pub by-seq : (seq : Seq) → Answers ltb 0 (λ r. r .seq .0) (λ r. r .ts) (historyOf w rs) (halved .coarse .places) (seq .0) (findTsIn (now w rs) seq)
@@ -55,19 +58,23 @@ EvenFrom2 n = (half : ℕ) × (n ≡ half + half) × (0 < half)
 pub record FromEmpty (capacity : ℕ) (w : Table) (rs : List TrackedSeq) : Type 0 where
   pub hides : Hides w rs
   pub all-recorded : historyOf w rs .recorded ≡ recordedOf w rs
-  pub by-total : historyOf w rs .halvings ≡ halvingsAt capacity (now w rs .state .totals .recorded)
+  pub halvings-by-total : historyOf w rs .halvings ≡ halvingsAt capacity (now w rs .state .totals .recorded)
 
 -- a table that a restore made of the pairs p: a fresh count, in which they are taken as recorded
 pub record FromRestored (p : Pairs) (w : Table) (rs : List TrackedSeq) : Type 0 where
   pub hides : Hides w rs
   pub all-recorded : historyOf w rs .recorded ≡ recordsOf (p .seqs) (p .secs) ++ recordedOf w rs
-  pub by-total : historyOf w rs .halvings ≡ halvingsAt 8192 (length (p .seqs) + now w rs .state .totals .recorded)
+  pub halvings-by-total : historyOf w rs .halvings ≡ halvingsAt 8192 (length (p .seqs) + now w rs .state .totals .recorded)
 
 -- the theorem, over any offers, also those that are skipped or refused
 pub record HalvingHides : Type 0 where
-  -- what a halving is: of the kept pairs and a recorded one every second stays, the first among them; where it is none, all stay
+  -- what a halving is: of the kept pairs and a recorded one every second stays, the first among them; where the pair makes none, all stay; where the offer is not recorded, the kept pairs stay as they are
   pub one-pair : (w : Table) (r : TrackedSeq) → records w r ≡ true
       → keptPairs (after w r) ≡ cond (halves w r) (evens (keptPairs w ++ (r ∷ []))) (keptPairs w ++ (r ∷ []))
+  pub no-pair : (w : Table) (r : TrackedSeq) → records w r ≡ false → keptPairs (after w r) ≡ keptPairs w
+  -- of offers in two parts, what is recorded and how often the table is halved
+  pub in-parts : (w : Table) (before later : List TrackedSeq)
+      → (recordedOf w (before ++ later) ≡ recordedOf w before ++ recordedOf (now w before) later) × (halvingsOf w (before ++ later) ≡ halvingsOf w before + halvingsOf (now w before) later)
   -- from any good table of even capacity from 2 up, its pairs taken as recorded
   pub from-any : (w : Table) → checkIn w ≡ gave tt → EvenFrom2 (w .state .capacity) → (rs : List TrackedSeq) → Hides w rs
   -- from an empty table at any valid settings with such a capacity
