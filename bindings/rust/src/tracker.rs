@@ -30,9 +30,10 @@ pub use totals::Totals;
 ///
 /// # How coarse an old answer may be
 ///
-/// At an even capacity from 2 up the first recorded pair and the newest are always kept, and two neighbouring pairs stand further apart the further back they
-/// lie: at capacity 8,192 at most 2 recorded pairs where at most 4,096 were recorded after the older, at most 4 where at most 8,192 were, and twice as many with
-/// each 4,096 more. The project's README has the table, what it means for lookups, and how [`Totals::recorded`] tells the number of halvings.
+/// At an even capacity from 2 up the first recorded pair and the newest are always kept, and two neighbouring pairs may stand further apart the further back
+/// they lie: at capacity 8,192 at most 2 recorded pairs where at most 4,096 were recorded after the older, at most 4 where at most 8,192 were, and twice as many
+/// with each 4,096 more. A table read from bytes starts a fresh count, in which the pairs read are taken as recorded. The project's README has the table, what it
+/// means for lookups, and how the number of halvings is had from [`Totals::recorded`].
 ///
 /// # What a call costs
 ///

@@ -6,6 +6,7 @@ mod bits;
 mod chance;
 mod dates;
 mod encoders;
+mod halving;
 mod lent;
 mod lists;
 mod lookups;
@@ -59,6 +60,7 @@ pub(crate) fn main(words: Vec<String>) -> i32 {
     offers::exhaustive(&mut tally);
     lists::exhaustive(&mut tally);
     lookups::exhaustive(&mut tally);
+    halving::exhaustive(&mut tally);
     dates::exhaustive(&mut tally);
     for _ in 0..rounds {
         bits::random(&mut tally, &mut chance);
@@ -71,9 +73,12 @@ pub(crate) fn main(words: Vec<String>) -> i32 {
         refusals::random(&mut tally, &mut chance);
         totals::random(&mut tally, &mut chance);
     }
-    // dates last: what is random before them is the same as without them
+    // dates last, and then halving: what is random before them is the same as without them
     for _ in 0..rounds {
         dates::random(&mut tally, &mut chance);
+    }
+    for _ in 0..rounds {
+        halving::random(&mut tally, &mut chance);
     }
     tally.print();
     0

@@ -8,7 +8,7 @@ use super::tally::Tally;
 use super::theirs;
 use std::fmt::Debug;
 
-const ROUNDS: [(FindOption, u32); 2] = [(FindOption::RoundUp, 0), (FindOption::RoundDown, 1)];
+pub const ROUNDS: [(FindOption, u32); 2] = [(FindOption::RoundUp, 0), (FindOption::RoundDown, 1)];
 
 fn found(partner: Option<u64>) -> Answer {
     match partner {
@@ -55,7 +55,7 @@ fn question<K: Debug>(tally: &mut Tally, kinds: &Kinds, t: &SequenceTracker, key
     }
 }
 
-fn by_sequence(tally: &mut Tally, t: &SequenceTracker, ours: &Table, seq: u64) {
+pub fn by_sequence(tally: &mut Tally, t: &SequenceTracker, ours: &Table, seq: u64) {
     let equal: Vec<u64> = t.sequence_numbers.iter().zip(&t.timestamps).filter(|p| *p.0 == seq).map(|p| *p.1 as u64).collect();
     for (option, round) in ROUNDS {
         let theirs = t.find_ts(seq, option).map(|d| d.timestamp() as u64);
@@ -63,7 +63,7 @@ fn by_sequence(tally: &mut Tally, t: &SequenceTracker, ours: &Table, seq: u64) {
     }
 }
 
-fn by_second(tally: &mut Tally, t: &SequenceTracker, ours: &Table, sec: i64) {
+pub fn by_second(tally: &mut Tally, t: &SequenceTracker, ours: &Table, sec: i64) {
     let equal: Vec<u64> = t.timestamps.iter().zip(&t.sequence_numbers).filter(|p| *p.0 == sec).map(|p| *p.1).collect();
     for (option, round) in ROUNDS {
         let theirs = t.find_seq(theirs::instant(sec), option);

@@ -37,7 +37,7 @@ fn save(tally: &mut Tally, chance: &mut Chance, t: &SequenceTracker, ours: &Tabl
 
 /// A strict save, and a restore of what it wrote, at an interval, into other arrays: our table goes on there. By the rules (docs/RULES.md) it has the same pairs, the same
 /// count and the same last recorded second, that interval, and totals of 0. A refused save leaves it as it is. Whether it was restored.
-fn reload(tally: &mut Tally, chance: &mut Chance, t: &SequenceTracker, ours: &mut Table, interval: u64) -> bool {
+pub fn reload(tally: &mut Tally, chance: &mut Chance, t: &SequenceTracker, ours: &mut Table, interval: u64) -> bool {
     let image = t.to_bytes();
     let room = image.len() + chance.index(9);
     let Some(written) = save(tally, chance, t, ours, true, &image, room) else {

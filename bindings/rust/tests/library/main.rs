@@ -6,6 +6,7 @@ mod chance;
 mod claims;
 mod dates;
 mod errors;
+mod halving;
 mod images;
 mod intervals;
 mod lists;
@@ -23,7 +24,7 @@ mod values;
 
 #[no_mangle]
 pub extern "C" fn main(_argc: i32, _argv: *const *const u8) -> i32 {
-    let tracker = [tables::CASES, pairs::CASES, lists::CASES, reasons::CASES, totals::CASES];
+    let tracker = [tables::CASES, pairs::CASES, lists::CASES, reasons::CASES, totals::CASES, halving::CASES];
     let stored = [images::CASES, intervals::CASES, places::CASES, claims::CASES, runs::CASES];
     let others = [values::CASES, times::CASES, dates::CASES, errors::CASES, arrays::CASES, bits::CASES, raw::CASES, stack::CASES];
     run::run(&[tracker.concat(), stored.concat(), others.concat()].concat())
