@@ -41,14 +41,15 @@ pub record Coarse (h : History) : Type 0 where
 abbrev pub halvingsAt : ℕ → ℕ → ℕ
 halvingsAt capacity r = cond (leb r capacity) 0 (1 + (r - capacity - 1) / (capacity / 2))
 
+-- so many had been made when recorded pair x was recorded, its own among them
+abbrev pub madeBy : History → ℕ → ℕ
+madeBy h x = halvingsAt (h .capacity) (x + 1)
+
 -- so many recorded pairs back lies recorded pair x: as many as were recorded after it
 abbrev pub back : History → ℕ → ℕ
 back h x = length (h .recorded) - 1 - x
 
--- so many of them had been made when recorded pair x was recorded, its own among them
-abbrev pub madeBy : History → ℕ → ℕ
-madeBy h x = halvingsAt (h .capacity) (x + 1)
-
+-- what else holds of the same places
 pub record Halved (h : History) : Type 0 where
   pub coarse : Coarse h
   -- which pairs are kept is had from their places alone: kept pair i is recorded pair x exactly where x is half the capacity for each halving made by then, and i times 2^(the halvings since)
@@ -65,7 +66,7 @@ pub record Halved (h : History) : Type 0 where
 abbrev pub InOrder : {K : Type 0} → (K → K → Bool) → (TrackedSeq → K) → List TrackedSeq → Type 0
 InOrder lt key pairs = (x y : ℕ) → x ≤ y → y < length pairs → lt (key (pairAt pairs y)) (key (pairAt pairs x)) ≡ false
 
--- e is the history by the first of some offers, and h by all: two neighbours that were both recorded after the first of them stand at most 2^(the halvings since) recorded pairs apart; and so do two
--- of which the older was the newest then
+-- e is the history by the first part of some offers, and h by all of them: two neighbours that were both recorded after that part stand at most 2^(the halvings since) recorded pairs apart; and so
+-- do two of which the older was the newest at its end
 abbrev pub Since : (e h : History) → Places (h .recorded) (h .kept) → Type 0
 Since e h p = (i : ℕ) → i + 1 < length (h .kept) → length (e .recorded) ≤ p .at i + 1 → apart p i ≤ 2 ^ (h .halvings - e .halvings)
