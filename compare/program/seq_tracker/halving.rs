@@ -201,6 +201,10 @@ impl Run {
         // of the bounds that reach as far back, the least
         let by_age = too_far(&kept, |older| two_to(recorded.back(older).div_ceil(half)));
         tally.same("halving, neighbours by age", input, &by_age, &None);
+        // the first such power of two reaches the least
+        let reach = (1..).find(|&j| recorded.capacity as u128 <= two_to(j)).unwrap() * half;
+        let too_old = kept.iter().skip(1).find(|&&at| recorded.back(at) >= reach);
+        tally.same("halving, how far back pairs but the first are kept", input, &too_old, &None);
         // of the moments, the one at which the older was the newest: it has the least bound
         let since = too_far(&kept, |older| two_to(halvings - recorded.then[older]));
         tally.same("halving, neighbours by how often since", input, &since, &None);

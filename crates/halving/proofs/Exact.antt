@@ -3,14 +3,14 @@ use mathlib.Core.Path.{_≡_, sym, ap, _∙_}
 use mathlib.Core.Logic.{⊎-elim}
 use mathlib.Core.List.{List, [], _∷_, _++_}
 use Prim.Native.Nat.{ℕ, suc, _+_, _-_, _*_, _/_, _^_, _≤_, _<_}
-use native.Mathlib.Nat.{one-le-pow, two-pow-succ, mul-add, add-mul, one-mul, mul-le-mul-right, le-div-iff-mul-le, lt-div-mul-add, div-mul-le-self, sub-self}
+use native.Mathlib.Nat.{one-le-pow, two-pow-succ, mul-add, add-mul, one-mul, mul-le-mul-right, le-div-iff-mul-le, lt-div-mul-add, div-mul-le-self, sub-self, pow-le-pow-right}
 use native.Mathlib.Omega.{arith}
 use lib.ListN.{length, length-append}
 use Rattle.order.proofs.Bools.{below-or}
 use Rattle.tracker.specs.declared.TrackedSeq.{TrackedSeq}
 use Rattle.keeping.specs.Keep.{evens}
 use Rattle.keeping.proofs.Thinned.{length-evens}
-use Rattle.halving.proofs.Level.{level, level-mono, level-count, level-from, level-least}
+use Rattle.halving.proofs.Level.{level, level-mono, level-count, level-from, level-upto, level-least}
 
 module _ (half : ℕ) (some : 0 < half) where
   -- the place of kept pair i, with which there were l halvings of k
@@ -105,6 +105,39 @@ module _ (half : ℕ) (some : 0 < half) where
             (omega (arith, less), ap to is ∙ new ∙ sym s))
             (below-or x (length rec));
       }
+
+  -- ---- how far back it reaches
+
+  -- a kept pair but the first has fewer than j halvings after it, where the capacity is at most 2^j, and with those lies fewer than j halves of the capacity back
+  pub exact-reaches : (k : ℕ) (rec kept : List TrackedSeq) (at : ℕ → ℕ) → Exact k rec kept at → length rec ≤ half + half + k * half → level half some (length rec) ≡ k
+      → (i j : ℕ) → 0 < i → i < length kept → at i < length rec → half + half ≤ 2 ^ j → length rec - 1 - at i < j * half
+  exact-reaches k rec kept at E most top i j h b inside wide =
+      let x = at i in
+      let l = level half some (x + 1) in
+      let m = k - l in
+      let p = 2 ^ m in
+      let there = E .there i b in
+      let one : 1 * p ≤ i * p = mul-le-mul-right p h in
+      let upto = level-upto half some x in
+      let low : l ≤ k = omega (arith, top, level-mono half some (x + 1) (length rec) (omega arith)) in
+      let split : k * half ≡ m * half + l * half = ap (λ (n : ℕ). n * half) (sum low) ∙ add-mul m l half in
+      ⊎-elim
+      (λ (less : m < j).
+      ⊎-elim
+      (λ (few : m + 1 < j).
+      let all : (m + 2) * half ≤ j * half = mul-le-mul-right half (omega arith) in
+      omega (arith, there, one, one-mul p, most, split, all, add-mul m 2 half, one-le-pow m 2 (omega arith)))
+      (λ (last : j ≤ m + 1).
+      let e : j ≡ suc m = omega arith in
+      let double : 2 ^ j ≡ p + p = ap (λ (n : ℕ). 2 ^ n) e ∙ two-pow-succ m in
+      let all : (m + 1) * half ≤ j * half = mul-le-mul-right half (omega arith) in
+      omega (arith, there, one, one-mul p, most, split, all, double, add-mul m 1 half, one-mul half))
+      (below-or (m + 1) j))
+      (λ (more : j ≤ m). absurd (omega (arith, there, one, one-mul p, upto, wide, pow-le-pow-right {n = 2} (omega arith) more)))
+      (below-or m j)
+    where
+      sum : {l : ℕ} → l ≤ k → k ≡ k - l + l
+      sum h = omega arith
 
   -- ---- rounding down
 

@@ -42,7 +42,7 @@ use Rattle.halving.specs.Coarse.{pairAt, halvingsAt, madeBy}
 use Rattle.halving.specs.Asked.{Answers}
 use Rattle.halving.specs.Halving.{findTsIn, findSeqIn, Hides, EvenFrom2, FromEmpty, HalvingHides}
 use Rattle.halving.proofs.Level.{level, level-is, level-mono, bound, bound-most}
-use Rattle.halving.proofs.Exact.{slot}
+use Rattle.halving.proofs.Exact.{slot, exact-reaches}
 use Rattle.halving.proofs.Spread.{Spread}
 use Rattle.halving.proofs.Kept.{kept-count, kept-fit, few, kept-recorded}
 use Rattle.halving.proofs.Asked.{near-most, near-all, near-aged}
@@ -160,6 +160,7 @@ module _ (w : Table) (good : checkIn w ≡ gave tt) (half : ℕ) (some : 0 < hal
         let h = historyOf w rs in
         let l = level-now rs in
         let at = spread .places .at in
+        let most : length (h .recorded) ≤ half + half + k * half = omega (arith, held rs .stands .counted, kept-count (now w rs) (held rs .good), few (now w rs) (held rs .good) half some (held rs .even)) in
         record {
           halved = record {
             coarse = record { places = spread .places; near = λ i b. omega (arith, near-all half some k spread l i b) };
@@ -167,6 +168,8 @@ module _ (w : Table) (good : checkIn w ≡ gave tt) (half : ℕ) (some : 0 < hal
             how-many = sym (ap (λ c. halvingsAt c (length (h .recorded))) even ∙ level-is half some (length (h .recorded)) ∙ l);
             dropped = rw two (held rs .stands .counted);
             by-age = λ i j b a. omega (arith, near-aged half some k spread l i j b (rw two at a));
+            reaches = λ i j p b wide.
+                rw two (exact-reaches half some k (h .recorded) (h .kept) at (held rs .stands .exact) most l i j p b (spread .places .each i b .0) (rw even at wide));
           };
           since = λ before later e i b a.
               omega (

@@ -2,7 +2,7 @@
 use mathlib.Core.Path.{_≡_, sym, _∙_}
 use mathlib.Core.Logic.{⊎-elim}
 use Prim.Native.Nat.{ℕ, suc, _+_, _-_, _*_, _/_, _^_, _≤_, _<_}
-use native.Mathlib.Nat.{le-trans, one-le-pow, two-pow-succ, pow-le-pow-right, le-div-iff-mul-le, add-div-right, add-mul-div-right, div-eq-of-lt, div-mul-le-self, mul-le-mul-right, zero-mul, one-mul}
+use native.Mathlib.Nat.{le-trans, one-le-pow, two-pow-succ, pow-le-pow-right, le-div-iff-mul-le, add-div-right, add-mul-div-right, div-eq-of-lt, div-mul-le-self, mul-le-mul-right, zero-mul, one-mul, lt-div-mul-add}
 use native.Mathlib.Omega.{arith}
 use borrow.Author.Tests.{le-leb, lt-leb}
 use Rattle.order.proofs.Bools.{below-or}
@@ -58,6 +58,12 @@ module _ (half : ℕ) (some : 0 < half) where
       let l = level (x + 1) in
       let m = le-div-iff-mul-le {k = half} {x = l} {y = x + 1 - (half + half) + (half - 1)} some .0 (omega arith) in
       omega (arith, m, mul-le-mul-right half h, one-mul half)
+
+  -- and up to where
+  pub level-upto : (x : ℕ) → x < half + half + level (x + 1) * half
+  level-upto x =
+      let y = x + 1 - (half + half) + (half - 1) in
+      omega (arith, lt-div-mul-add {a = y} {b = half} some)
 
   pub level-least : (x l : ℕ) → 0 < l → l * half + half ≤ x → l ≤ level (x + 1)
   level-least x l h far = le-div-iff-mul-le {k = half} {x = l} {y = x + 1 - (half + half) + (half - 1)} some .1 (omega (arith, mul-le-mul-right half h, one-mul half))

@@ -61,6 +61,8 @@ pub record Halved (h : History) : Type 0 where
   pub dropped : length (h .recorded) ≡ length (h .kept) + h .halvings * (h .capacity / 2)
   -- two neighbours of which the older lies at most j times half the capacity back stand at most 2^j recorded pairs apart
   pub by-age : (i j : ℕ) → i + 1 < length (h .kept) → back h (coarse .places .at i) ≤ j * (h .capacity / 2) → apart (coarse .places) i ≤ 2 ^ j
+  -- how far back it reaches at all: each kept pair but the first lies fewer than j times half the capacity back, where the capacity is at most 2^j
+  pub reaches : (i j : ℕ) → 0 < i → i < length (h .kept) → h .capacity ≤ 2 ^ j → back h (coarse .places .at i) < j * (h .capacity / 2)
 
 -- pairs in order by a key, with an order test `lt`
 abbrev pub InOrder : {K : Type 0} → (K → K → Bool) → (TrackedSeq → K) → List TrackedSeq → Type 0

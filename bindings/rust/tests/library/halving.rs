@@ -9,7 +9,7 @@ use std::collections::{BTreeMap, BTreeSet};
 use std::ops::RangeInclusive;
 
 pub const CASES: &[Case] = &[
-    ("at capacity 8,192 each row of README's table holds over 200,000 pairs, and the first twelve are attained", rows),
+    ("at capacity 8,192 each row of README's table holds over 200,000 pairs, the first twelve are attained, and 53,247 back is the furthest but the first", rows),
     ("after offers of every kind the pairs stand as the law says, from an empty table and from one with pairs", neighbours),
     ("of a restored table the law counts from its pairs on, and its total is what was recorded since", restored),
     ("a lookup answers as near as the law says to the pair that it would name if none had been dropped", lookups),
@@ -43,11 +43,11 @@ fn due_positions(capacity: usize, recorded: usize) -> Vec<usize> {
 
 /// The rows of README's table, at capacity 8,192 and one pair each ten seconds: of two neighbours of which the older lies at most j * 4,096 pairs back, at most 2^j
 /// apart, which is 2^j * 10 seconds.
-const ROWS: RangeInclusive<usize> = 1..=15;
+const ROWS: RangeInclusive<usize> = 1..=13;
 
 fn rows() {
     let mut tracker = SequenceTracker::new();
-    let (mut recorded, mut attained) = (0, BTreeSet::new());
+    let (mut recorded, mut attained, mut furthest) = (0, BTreeSet::new(), 0);
     // right before each halving, right after it, and half-way to the next
     let moments = (0..=46).map(|halvings| 8192 + 4096 * halvings).flat_map(|full| [full, full + 1, full + 2000]);
     for moment in moments.chain([200_000]) {
@@ -58,6 +58,8 @@ fn rows() {
         if recorded % 4096 == 1 {
             assert_eq!((pairs.len(), pairs[4096].0 - pairs[4095].0), (4097, 3 * 2));
         }
+        // all but the first
+        furthest = furthest.max(recorded - 1 - pairs[1].0 as usize / 3);
         for two in pairs.windows(2) {
             let (apart, seconds) = ((two[1].0 - two[0].0) as usize / 3, two[1].1 - two[0].1);
             let back = recorded - 1 - two[0].0 as usize / 3;
@@ -70,6 +72,7 @@ fn rows() {
         }
     }
     assert!(attained.into_iter().eq(1..=12));
+    assert_eq!(furthest, 53_247);
     assert_eq!((tracker.totals().recorded, due_halvings(8192, recorded)), (200_000, 47));
 }
 
@@ -120,6 +123,8 @@ impl Run {
         let at = self.positions();
         assert_eq!(at, due_positions(2 * half, n));
         assert_eq!((at.first().copied(), at.last().copied()), ((n > 0).then_some(0), n.checked_sub(1)));
+        let reach = (1..).find(|&j| 2 * half <= two_to(j)).unwrap() * half;
+        assert!(at.iter().skip(1).all(|&at| self.back(at) < reach));
         for two in at.windows(2) {
             let (older, newer) = (two[0], two[1]);
             assert!(older < newer);
