@@ -94,6 +94,42 @@ struct skut_table_answer {
     struct skut_state state;
 };
 
+/* Up to sixteen questions and their answers, in one struct that is passed and returned by value: by sequence, answered by a second, and by second, answered by a
+ * sequence. `used` says how many of the places are questions: the first so many. An answer has `found` 1 and what was found, or both are 0, and there is none.
+ * The answers past `used` are the caller's own: they come back as they went in, whatever they hold. */
+struct skut_ts_answer {
+    uint64_t found;
+    int64_t second;
+};
+
+struct skut_ts_sheet {
+    uint64_t keys[16];
+    struct skut_ts_answer answers[16];
+    size_t used;
+};
+
+struct skut_seq_answer {
+    uint64_t found;
+    uint64_t seq;
+};
+
+struct skut_seq_sheet {
+    int64_t keys[16];
+    struct skut_seq_answer answers[16];
+    size_t used;
+};
+
+/* What a call on a sheet answers: number 0, and the sheet with the answers to its questions; or the number of its refusal, and the sheet as it went in. */
+struct skut_ts_sheet_answer {
+    struct skut_answer answer;
+    struct skut_ts_sheet sheet;
+};
+
+struct skut_seq_sheet_answer {
+    struct skut_answer answer;
+    struct skut_seq_sheet sheet;
+};
+
 /* The numbers. "Array" is 0 for the sequences and 1 for the seconds; an index or a position counts from 0. What is told stands in a, b, c in
  * the order named. A place comes last, and stands in byte and bit. */
 enum {
@@ -115,7 +151,7 @@ enum {
     SKUT_SETTINGS = 15,         /* the capacity is above 8,192 or the interval above 2^63-1 */
     SKUT_OFFERED_OUTSIDE = 16,  /* the offered second is outside the years 0001 to 9999: of a list, the position */
     SKUT_OFFERED_DROPS = 17,    /* the offered sequence is below the last kept one: of a list, the position */
-    SKUT_LENGTHS_DIFFER = 18,   /* the two arrays to encode, or the two lists of offers, differ in length */
+    SKUT_LENGTHS_DIFFER = 18,   /* the two arrays to encode, the two lists of offers, or the questions, answers and marks of a list, differ in length */
     SKUT_TOO_MANY_VALUES = 19,  /* each array to encode has more than 65,536 values */
     SKUT_WIDE = 20,             /* strict: a difference of deltas is outside -2^31..2^31-1: array, index */
     SKUT_ROOM = 21,             /* the output is too short: the bytes needed */
@@ -125,7 +161,8 @@ enum {
     SKUT_DATE_GRAMMAR = 25,     /* the text is not a date-time of RFC 3339's grammar, or its fraction has more than nine digits */
     SKUT_NO_SUCH_TIME = 26,     /* the text is of that form, but there is no such date, time of day or offset */
     SKUT_DATE_OUTSIDE = 27,     /* the second to write, or the one read once the offset is applied, is outside the years 0001 to 9999 */
-    SKUT_TOTALS_FULL = 31       /* the totals add up to 2^64-1, and one more offer would pass that: of a list, the position */
+    SKUT_TOTALS_FULL = 31,      /* the totals add up to 2^64-1, and one more offer would pass that: of a list, the position */
+    SKUT_TOO_MANY_QUESTIONS = 35 /* a sheet's `used` is above 16 */
 };
 
 /* Which of the kept keys answers a lookup. */
@@ -142,7 +179,7 @@ struct skut_table_answer skut_new(void);
 /* An empty table: 15. Stack: 256 bytes. */
 struct skut_table_answer skut_with_config(uint32_t capacity, uint64_t interval_secs);
 
-/* Whether a table is good: 14, 11, 12, 13, in this order. Every call below that takes a table checks this first, skut_offer_pairs after 18.
+/* Whether a table is good: 14, 11, 12, 13, in this order. Every call below that takes a table checks this first, skut_offer_pairs and the lists of questions after 18, the sheets after 35.
  * Stack: 256 bytes. */
 struct skut_answer skut_check(struct skut_state state, const uint64_t *seqs, size_t seqs_len, const int64_t *secs, size_t secs_len);
 
@@ -174,6 +211,25 @@ struct skut_answer skut_find_ts(struct skut_state state, const uint64_t *seqs, s
 /* The sequence of a second, likewise: a is 1 and b the sequence, or a is 0. Of the pairs of one second SKUT_ROUND_UP gives the first one's sequence and
  * SKUT_ROUND_DOWN the last one's. Stack: 384 bytes. */
 struct skut_answer skut_find_seq(struct skut_state state, const uint64_t *seqs, size_t seqs_len, const int64_t *secs, size_t secs_len, int64_t sec, uint32_t round);
+
+/* The seconds of up to sixteen sequences: 35, before all else. The table is checked once; each question is answered as skut_find_ts would answer it, with one
+ * `round` for all. Nothing is told in a, b, c. Stack: 2,048 bytes. */
+struct skut_ts_sheet_answer skut_find_ts_16(struct skut_state state, const uint64_t *seqs, size_t seqs_len, const int64_t *secs, size_t secs_len,
+                                            struct skut_ts_sheet sheet, uint32_t round);
+
+/* The sequences of up to sixteen seconds, likewise, as skut_find_seq would answer. Stack: 2,048 bytes. */
+struct skut_seq_sheet_answer skut_find_seq_16(struct skut_state state, const uint64_t *seqs, size_t seqs_len, const int64_t *secs, size_t secs_len,
+                                              struct skut_seq_sheet sheet, uint32_t round);
+
+/* The second of each sequence of a list, of any length: 18 where the three lengths are not one, before all else. The table is checked once; each question is
+ * answered as skut_find_ts would answer it, with one `round` for all: the second in `answers` and 1 in `found` at the question's place, or 0 in both, and there is
+ * none. Refused, both are as they were. Nothing is told in a, b, c. Stack: 512 bytes. */
+struct skut_answer skut_find_ts_each(struct skut_state state, const uint64_t *seqs, size_t seqs_len, const int64_t *secs, size_t secs_len,
+                                     const uint64_t *keys, size_t keys_len, int64_t *answers, size_t answers_len, uint8_t *found, size_t found_len, uint32_t round);
+
+/* The sequence of each second of a list, likewise, as skut_find_seq would answer. Stack: 512 bytes. */
+struct skut_answer skut_find_seq_each(struct skut_state state, const uint64_t *seqs, size_t seqs_len, const int64_t *secs, size_t secs_len,
+                                      const int64_t *keys, size_t keys_len, uint64_t *answers, size_t answers_len, uint8_t *found, size_t found_len, uint32_t round);
 
 /* Writes the table's image, and a is its length: 21. An image of n pairs has at most 9n + 21 bytes. The bytes are those that slatedb writes, also where
  * they read back as other pairs: (0, 0), (2^33, 60) come back as (0, 0), (0, 60). Stack: 640 bytes. */

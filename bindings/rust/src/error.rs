@@ -85,7 +85,7 @@ pub enum Error {
     OfferedOutside,
     /// 17: the offered sequence is below the last kept one.
     OfferedDrops,
-    /// 18: the two arrays to encode, or two lists of offers, differ in length.
+    /// 18: the two arrays to encode, two lists of offers, or the questions, answers and marks of a list, differ in length.
     LengthsDiffer,
     /// 19: each array to encode has more than 65,536 values.
     TooManyValues,
@@ -107,6 +107,8 @@ pub enum Error {
     DateOutside,
     /// 31: the table's totals add up to 2^64-1, and one more offer would pass that. The offer is not counted.
     TotalsFull,
+    /// 35: a sheet has more than sixteen questions.
+    TooManyQuestions,
     /// A number that is not on the list: the library is not the one that this crate was written for.
     Unlisted { number: u32 },
 }
@@ -143,6 +145,7 @@ impl Error {
             Error::NoSuchTime => 26,
             Error::DateOutside => 27,
             Error::TotalsFull => 31,
+            Error::TooManyQuestions => 35,
             Error::Unlisted { number } => number,
         }
     }
@@ -190,6 +193,7 @@ impl Error {
             26 => Error::NoSuchTime,
             27 => Error::DateOutside,
             31 => Error::TotalsFull,
+            35 => Error::TooManyQuestions,
             number => Error::Unlisted { number },
         })
     }
@@ -236,6 +240,7 @@ impl fmt::Display for Error {
             Error::NoSuchTime => f.write_str("there is no such date, time of day or offset"),
             Error::DateOutside => f.write_str("the date, in UTC, is outside the years 0001 to 9999"),
             Error::TotalsFull => f.write_str("the table has counted 2^64-1 offers, and cannot count one more"),
+            Error::TooManyQuestions => f.write_str("the sheet has more than sixteen questions"),
             Error::Unlisted { number } => {
                 write!(f, "the library answered {number}, which this crate does not know: the two are of different versions")
             }

@@ -64,6 +64,56 @@ pub struct TableAnswer {
     pub state: State,
 }
 
+/// The answer to a question by sequence: `found` is 1 beside the second, or both are 0, and there is none.
+#[repr(C)]
+#[derive(Clone, Copy, Debug, Default, PartialEq, Eq)]
+pub struct TsAnswer {
+    pub found: u64,
+    pub second: i64,
+}
+
+/// The answer to a question by second: `found` is 1 beside the sequence, or both are 0, and there is none.
+#[repr(C)]
+#[derive(Clone, Copy, Debug, Default, PartialEq, Eq)]
+pub struct SeqAnswer {
+    pub found: u64,
+    pub seq: u64,
+}
+
+/// Up to sixteen questions by sequence: the first `used` places. The answers past them come back as they went in.
+#[repr(C)]
+#[derive(Clone, Copy, Debug, Default, PartialEq, Eq)]
+pub struct TsSheet {
+    pub keys: [u64; 16],
+    pub answers: [TsAnswer; 16],
+    pub used: usize,
+}
+
+/// Up to sixteen questions by second.
+#[repr(C)]
+#[derive(Clone, Copy, Debug, Default, PartialEq, Eq)]
+pub struct SeqSheet {
+    pub keys: [i64; 16],
+    pub answers: [SeqAnswer; 16],
+    pub used: usize,
+}
+
+/// Number 0 and the sheet with its answers, or the number of a refusal and the sheet as it went in.
+#[repr(C)]
+#[derive(Clone, Copy, Debug, PartialEq, Eq)]
+pub struct TsSheetAnswer {
+    pub answer: Answer,
+    pub sheet: TsSheet,
+}
+
+/// The same of questions by second.
+#[repr(C)]
+#[derive(Clone, Copy, Debug, PartialEq, Eq)]
+pub struct SeqSheetAnswer {
+    pub answer: Answer,
+    pub sheet: SeqSheet,
+}
+
 #[link(name = "skutlaneb", kind = "static")]
 #[rustfmt::skip]
 extern "C" {
@@ -75,6 +125,10 @@ extern "C" {
     pub fn skut_extend_from(state: State, seqs: *mut u64, n: usize, secs: *mut i64, m: usize, other: State, other_seqs: *const u64, i: usize, other_secs: *const i64, j: usize) -> TableAnswer;
     pub fn skut_find_ts(state: State, seqs: *const u64, n: usize, secs: *const i64, m: usize, seq: u64, round: u32) -> Answer;
     pub fn skut_find_seq(state: State, seqs: *const u64, n: usize, secs: *const i64, m: usize, sec: i64, round: u32) -> Answer;
+    pub fn skut_find_ts_16(state: State, seqs: *const u64, n: usize, secs: *const i64, m: usize, sheet: TsSheet, round: u32) -> TsSheetAnswer;
+    pub fn skut_find_seq_16(state: State, seqs: *const u64, n: usize, secs: *const i64, m: usize, sheet: SeqSheet, round: u32) -> SeqSheetAnswer;
+    pub fn skut_find_ts_each(state: State, seqs: *const u64, n: usize, secs: *const i64, m: usize, keys: *const u64, i: usize, answers: *mut i64, j: usize, found: *mut u8, k: usize, round: u32) -> Answer;
+    pub fn skut_find_seq_each(state: State, seqs: *const u64, n: usize, secs: *const i64, m: usize, keys: *const i64, i: usize, answers: *mut u64, j: usize, found: *mut u8, k: usize, round: u32) -> Answer;
     pub fn skut_save(state: State, seqs: *const u64, n: usize, secs: *const i64, m: usize, out: *mut u8, k: usize) -> Answer;
     pub fn skut_save_strict(state: State, seqs: *const u64, n: usize, secs: *const i64, m: usize, out: *mut u8, k: usize) -> Answer;
     pub fn skut_restore(bytes: *const u8, k: usize, seqs: *mut u64, n: usize, secs: *mut i64, m: usize) -> TableAnswer;

@@ -50,7 +50,7 @@ ofPiece = of (λ p. p .value ∷ p .next .byte ∷ p .next .bit ∷ [])
 abbrev pub ofPlace : Told Place → Answer
 ofPlace = of (λ p. p .byte ∷ p .bit ∷ [])
 
--- a check: a good table gives no values
+-- a check, of a table alone or before many questions: what passes gives no values
 abbrev pub ofCheck : Told (Unit {0}) → Answer
 ofCheck = of (λ _. [])
 

@@ -7,6 +7,7 @@ ghost use Rattle.encoder.specs.Encode as encoding;
 ghost use Rattle.decoder.specs.Decode as decoding;
 ghost use Rattle.tracker.specs.Refusal.{toldCheck};
 ghost use Rattle.lookup.specs.Found.{toldTs, toldSeq};
+ghost use Rattle.questions.specs.Asked.{toldAsked};
 ghost use Rattle.saving.specs.Save.{toldSave};
 ghost use Rattle.dates.specs.Refusal.{toldWritten, toldRead};
 ghost use Rattle.answers.specs.Answer.{ofCount, ofSigned, ofPiece, ofPlace, ofCheck, ofTs, ofSeq};
@@ -23,6 +24,7 @@ use encoder::Encoded;
 use encoder::EncodedLen;
 use lookup::FoundSeq;
 use lookup::FoundTs;
+use questions::Asked;
 use saving::Saved;
 use signed::Extended;
 use signed::as_unsigned;
@@ -99,6 +101,18 @@ pub fn of_checked(checked: Checked) -> Answer
     match checked {
         Checked::Good => answer(0, 0, 0, 0),
         Checked::Refused(why) => refusals::of_table(why),
+    }
+}
+
+// Of many questions: nothing is given here, as the answers stand in their places.
+pub fn of_asked(asked: Asked) -> Answer
+    ensures { λ r. ⌜ r ≡ ofCheck (toldAsked asked) ⌝ }
+{
+    match asked {
+        Asked::Done => answer(0, 0, 0, 0),
+        Asked::TooMany => answer(35, 0, 0, 0),
+        Asked::LengthsDiffer => answer(18, 0, 0, 0),
+        Asked::Refused(why) => refusals::of_table(why),
     }
 }
 

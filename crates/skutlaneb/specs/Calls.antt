@@ -12,15 +12,21 @@ use Rattle.offers.specs.Offer.{offering}
 use Rattle.log.specs.Pairs.{pairsLogOf, extendOf}
 use Rattle.gorilla.specs.Format.{imageBytes}
 use Rattle.gorilla.specs.Reading.{pairsRead}
+use Rattle.sheets.specs.Sheet.{sheetRule, TsBack, SeqBack}
+use Rattle.sheets.specs.declared.TsSheet.{TsSheet}
+use Rattle.sheets.specs.declared.SeqSheet.{SeqSheet}
+use Rattle.question_lists.specs.Each.{listRule, TsLeft, SeqLeft}
 use Rattle.saving.specs.Save.{keptImage}
 use Rattle.restoring.specs.Restore.{readTable}
 use Rattle.dates.specs.Write.{writeDate, LeavesDate}
-use Rattle.answers.specs.Answer.{ofCount}
+use Rattle.answers.specs.Answer.{ofCount, ofCheck}
 use Rattle.answers.specs.declared.Answer.{Answer}
-use Rattle.states.specs.State.{tableOf}
+use Rattle.states.specs.State.{tableOf, roundOf}
 use Rattle.states.specs.declared.State.{State}
 use Rattle.table_answers.specs.Table.{ofTable, ofOffer, ofLog}
 use Rattle.table_answers.specs.declared.TableAnswer.{TableAnswer}
+use Rattle.skutlaneb.specs.declared.TsSheetAnswer.{TsSheetAnswer}
+use Rattle.skutlaneb.specs.declared.SeqSheetAnswer.{SeqSheetAnswer}
 
 -- an encoder by its rule
 abbrev pub SkutEncodes : (List ℕ → List ℤ → ℕ → Told ℕ) → List ℕ → List ℤ → List ℕ → Answer → List ℕ → Type 0
@@ -58,3 +64,19 @@ SkutOffersPairs s seqs secs fromSeqs fromSecs = Crosses ofLog (pairsLogOf (table
 
 abbrev pub SkutExtends : State → List ℕ → List ℤ → State → List ℕ → List ℤ → TableAnswer → List ℕ → List ℤ → Type 0
 SkutExtends s seqs secs other otherSeqs otherSecs = Crosses ofLog (extendOf (tableIn s seqs secs) (tableIn other otherSeqs otherSecs))
+
+-- up to sixteen questions by sequence, and by second: the answer, and the sheet that comes back
+abbrev pub SkutFindsTs16 : State → List ℕ → List ℤ → TsSheet → ℕ → TsSheetAnswer → Type 0
+SkutFindsTs16 t seqs secs s round r = (r .answer ≡ ofCheck (sheetRule (tableOf t) seqs secs (s .used))) × TsBack (tableOf t) seqs secs s (roundOf round) (r .sheet)
+
+abbrev pub SkutFindsSeq16 : State → List ℕ → List ℤ → SeqSheet → ℕ → SeqSheetAnswer → Type 0
+SkutFindsSeq16 t seqs secs s round r = (r .answer ≡ ofCheck (sheetRule (tableOf t) seqs secs (s .used))) × SeqBack (tableOf t) seqs secs s (roundOf round) (r .sheet)
+
+-- a list of questions by sequence, and by second: the answer, and the answers and their marks afterwards
+abbrev pub SkutFindsTsEach : State → List ℕ → List ℤ → List ℕ → ℕ → List ℤ → List ℕ → Answer → List ℤ → List ℕ → Type 0
+SkutFindsTsEach t seqs secs keys round answers found r answers′ found′ =
+    (r ≡ ofCheck (listRule (tableOf t) seqs secs (length keys) (length answers) (length found))) × TsLeft (tableOf t) seqs secs keys (roundOf round) answers found answers′ found′
+
+abbrev pub SkutFindsSeqEach : State → List ℕ → List ℤ → List ℤ → ℕ → List ℕ → List ℕ → Answer → List ℕ → List ℕ → Type 0
+SkutFindsSeqEach t seqs secs keys round answers found r answers′ found′ =
+    (r ≡ ofCheck (listRule (tableOf t) seqs secs (length keys) (length answers) (length found))) × SeqLeft (tableOf t) seqs secs keys (roundOf round) answers found answers′ found′

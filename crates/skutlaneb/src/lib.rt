@@ -7,5 +7,23 @@ pub mod bit_calls; // bit_calls.rt: bits in and out, sign extension
 pub mod date_calls; // date_calls.rt: dates
 pub mod image_calls; // image_calls.rt: images of arrays
 pub mod layout; // layout.rt: which layout the structs have
+pub mod question_calls; // question_calls.rt: many questions to one table
 pub mod store_calls; // store_calls.rt: a table saved and restored
 pub mod table_calls; // table_calls.rt: a table: settings, the check, offers, lookups
+
+use answers::Answer;
+use sheets::SeqSheet;
+use sheets::TsSheet;
+
+// The sheet comes back with the answers to its used questions, or, refused, as it went in.
+#[repr(C)]
+pub struct TsSheetAnswer {
+    pub answer: Answer,
+    pub sheet: TsSheet,
+}
+
+#[repr(C)]
+pub struct SeqSheetAnswer {
+    pub answer: Answer,
+    pub sheet: SeqSheet,
+}

@@ -8,9 +8,11 @@ use totals::Totals;
 pub mod inner;
 mod state;
 
-// A sequence number and a second are different things: one cannot be passed as the other.
+// A sequence number and a second are different things: one cannot be passed as the other. Both cross to other languages as the number they hold.
+#[repr(C)]
 pub struct Seq(pub u64);
 
+#[repr(C)]
 pub struct Second(pub i64);
 
 pub struct TrackedSeq {

@@ -52,6 +52,7 @@ fn told() {
         (26, Error::NoSuchTime),
         (27, Error::DateOutside),
         (31, Error::TotalsFull),
+        (35, Error::TooManyQuestions),
     ];
     for (number, error) in expected {
         assert_eq!(Error::of(&answer(number)), Some(error));
@@ -78,6 +79,7 @@ fn sentences() {
     assert_eq!(Error::NoSuchTime.to_string(), "there is no such date, time of day or offset");
     assert_eq!(Error::DateOutside.to_string(), "the date, in UTC, is outside the years 0001 to 9999");
     assert_eq!(Error::TotalsFull.to_string(), "the table has counted 2^64-1 offers, and cannot count one more");
+    assert_eq!(Error::TooManyQuestions.to_string(), "the sheet has more than sixteen questions");
 }
 
 fn where_it_stops() {

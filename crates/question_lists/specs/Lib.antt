@@ -1,0 +1,2 @@
+pub mod Each
+pub mod Inner

@@ -1,0 +1,4 @@
+pub mod Stands
+pub mod Asked
+pub mod Answered
+pub mod Inner

@@ -1,0 +1,94 @@
+// One sheet, up to sixteen questions: a record by value with the questions and their answers. The table is checked once.
+ghost use Rattle.sheets.specs.Sheet.{FindsTs16, FindsSeq16};
+use lookup::FindOption;
+use questions::Asked;
+use questions::SeqAnswer;
+use questions::TsAnswer;
+use questions::inner::judged;
+use tracker::Second;
+use tracker::Seq;
+use tracker::SequenceTracker;
+use tracker::check;
+
+mod filling; // filling.rt: the answers of a sheet, in a table that is checked
+
+// Questions by sequence. Of the sixteen places the first `used` are questions; the answers of the others are nobody's.
+#[repr(C)]
+pub struct TsSheet {
+    pub keys: [Seq; 16],
+    pub answers: [TsAnswer; 16],
+    pub used: usize,
+}
+
+// Questions by second.
+#[repr(C)]
+pub struct SeqSheet {
+    pub keys: [Second; 16],
+    pub answers: [SeqAnswer; 16],
+    pub used: usize,
+}
+
+// A sheet as it comes back: with its answers, or, refused, as it went in.
+pub struct TsSheetBack {
+    pub asked: Asked,
+    pub sheet: TsSheet,
+}
+
+pub struct SeqSheetBack {
+    pub asked: Asked,
+    pub sheet: SeqSheet,
+}
+
+// The seconds for up to sixteen sequence numbers.
+pub fn find_ts_16(
+    table: SequenceTracker,
+    seqs: &[u64],
+    secs: &[i64],
+    sheet: TsSheet,
+    find_opt: FindOption,
+) -> TsSheetBack
+    ensures { λ r. ⌜ FindsTs16 table (now (seqs .entry)) (now (secs .entry)) sheet «find_opt» r ⌝ }
+{
+    let checked = check(table, seqs, secs);
+    let too_many = sheet.used > 16;
+    let asked = judged(too_many, Asked::TooMany, checked);
+    let Asked::Done = asked else {
+        return TsSheetBack {
+            asked: asked,
+            sheet: sheet,
+        };
+    };
+    let n = table.count;
+    let answered = filling::ts_answers(seqs, secs, n, sheet, find_opt);
+    TsSheetBack {
+        asked: asked,
+        sheet: answered,
+    }
+}
+
+// The sequence numbers for up to sixteen seconds.
+pub fn find_seq_16(
+    table: SequenceTracker,
+    seqs: &[u64],
+    secs: &[i64],
+    sheet: SeqSheet,
+    find_opt: FindOption,
+) -> SeqSheetBack
+    ensures { λ r. ⌜ FindsSeq16 table (now (seqs .entry)) (now (secs .entry)) sheet «find_opt» r ⌝ }
+{
+    let checked = check(table, seqs, secs);
+    let too_many = sheet.used > 16;
+    let asked = judged(too_many, Asked::TooMany, checked);
+    let Asked::Done = asked else {
+        return SeqSheetBack {
+            asked: asked,
+            sheet: sheet,
+        };
+    };
+    let n = table.count;
+    let answered = filling::seq_answers(seqs, secs, n, sheet, find_opt);
+    SeqSheetBack {
+        asked: asked,
+        sheet: answered,
+    }
+}
