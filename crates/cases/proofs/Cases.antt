@@ -32,6 +32,7 @@ use Rattle.theorems.specs.Run.{step, ranTo}
 use Rattle.cases.specs.Cases.{Cases}
 use Rattle.cases.proofs.DateCases.{date-cases}
 use Rattle.cases.proofs.HalvingCases.{halving-cases}
+use Rattle.cases.proofs.QuestionCases.{question-cases}
 
 -- the dates of P5
 fifth-dated : AllDated dateText (pos 0 ∷ pos 60 ∷ [])
@@ -83,4 +84,5 @@ cases = record {
   order = (refl, refl);
   dates = date-cases;
   halving = halving-cases;
+  questions = question-cases;
 }

@@ -2,4 +2,5 @@
 mod Example
 mod DateCases
 mod HalvingCases
+mod QuestionCases
 pub mod Cases

@@ -39,6 +39,7 @@ use Rattle.theorems.specs.Run.{plain, naming, offered, step}
 use Rattle.cases.specs.Given.{second, seqNo, pair, pairsIn, buffer, lent, four, totalled, offeredAll, offeredAndReloaded, firstOf, fifth, begun}
 use Rattle.cases.specs.DateCases.{DateCases}
 use Rattle.cases.specs.HalvingCases.{HalvingCases}
+use Rattle.cases.specs.QuestionCases.{QuestionCases}
 
 -- ---- what must come out: kinds of cases that are more than one equation, or stand often
 
@@ -244,6 +245,7 @@ pub record Cases : Type 0 where
       × (readRule (0xFF ∷ []) (record { byte = 0; bit = 3 }) 65 ≡ refused (23 ∷ []))
   -- per array 4, 10, 5: a count of 2 for two arrays of one place, with no first value after it, gives 10; with two places, 5, at byte 9
   pub order : DecodeTells 1 (begun 2) (refused (10 ∷ 0 ∷ [])) × DecodeTells 2 (begun 2) (refused (5 ∷ 0 ∷ 9 ∷ 0 ∷ []))
-  -- dates, and halving: tables of their own
+  -- dates, halving, and many questions: tables of their own
   pub dates : DateCases
   pub halving : HalvingCases
+  pub questions : QuestionCases

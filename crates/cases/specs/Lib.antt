@@ -1,4 +1,5 @@
 pub mod Given
 pub mod DateCases
 pub mod HalvingCases
+pub mod QuestionCases
 pub mod Cases

@@ -5,9 +5,9 @@ use lookup::FindOption;
 use questions::Asked;
 use questions::inner::judged;
 use tracker::SequenceTracker;
-use tracker::check;
 
-mod filling; // filling.rt: the answers of a list, in a table that is checked
+mod by_second; // by_second.rt: the answers to questions by second
+mod by_seq; // by_seq.rt: the answers to questions by sequence
 
 // Whether the three slices differ in length.
 fn differ(keys: usize, answers: usize, found: usize) -> bool
@@ -34,13 +34,12 @@ pub fn find_ts_each(
 {
     let m = keys.len();
     let differ = differ(m, answers.len(), found.len());
-    let checked = check(table, seqs, secs);
-    let asked = judged(differ, Asked::LengthsDiffer, checked);
+    let asked = judged(table, seqs, secs, differ, Asked::LengthsDiffer);
     let Asked::Done = asked else {
         return asked;
     };
     let n = table.count;
-    filling::ts_answers(seqs, secs, n, keys, answers, found, find_opt);
+    by_seq::answers(seqs, secs, n, keys, answers, found, find_opt);
     asked
 }
 
@@ -59,12 +58,11 @@ pub fn find_seq_each(
 {
     let m = keys.len();
     let differ = differ(m, answers.len(), found.len());
-    let checked = check(table, seqs, secs);
-    let asked = judged(differ, Asked::LengthsDiffer, checked);
+    let asked = judged(table, seqs, secs, differ, Asked::LengthsDiffer);
     let Asked::Done = asked else {
         return asked;
     };
     let n = table.count;
-    filling::seq_answers(seqs, secs, n, keys, answers, found, find_opt);
+    by_second::answers(seqs, secs, n, keys, answers, found, find_opt);
     asked
 }

@@ -2,7 +2,7 @@
 ghost use mathlib.Core.Path.{_≡_};
 ghost use mathlib.Core.Bool.{cond};
 ghost use Rattle.tracker.specs.Refusal.{toldCheck};
-ghost use Rattle.lookup.specs.Find.{Partner};
+ghost use Rattle.tracker.specs.Table.{checkOf};
 ghost use Rattle.questions.specs.Stands.{tsStands, seqStands};
 ghost use Rattle.questions.specs.Asked.{toldAsked};
 ghost use Rattle.questions.specs.Inner.{GoodPairs, tsPartner, seqPartner};
@@ -13,6 +13,8 @@ use lookup::FindOption;
 use tracker::Checked;
 use tracker::Second;
 use tracker::Seq;
+use tracker::SequenceTracker;
+use tracker::check;
 
 // The answer to one question by sequence, among the first n pairs of a good table.
 pub fn ts_answer(seqs: &[u64], secs: &[i64], n: usize, seq: Seq, find_opt: FindOption) -> TsAnswer
@@ -60,12 +62,20 @@ pub fn seq_answer(
     }
 }
 
-// What is told where the call has a refusal of its own, which comes before the table's.
-pub fn judged(own: bool, why: Asked, checked: Checked) -> Asked
+// What is told of a refusal of the call's own and of the check of the table: the own one comes first.
+fn first_of(own: bool, why: Asked, checked: Checked) -> Asked
     ensures { λ r. ⌜ toldAsked r ≡ cond own (toldAsked why) (toldCheck checked) ⌝ }
 {
     match checked {
         Checked::Good => { if own { why } else { Asked::Done } }
         Checked::Refused(table) => { if own { why } else { Asked::Refused(table) } }
     }
+}
+
+// The one check of the table, for all questions of a call. It is made before the test of the own refusal is heard, so that both come to one place.
+pub fn judged(table: SequenceTracker, seqs: &[u64], secs: &[i64], own: bool, why: Asked) -> Asked
+    ensures { λ r. ⌜ toldAsked r ≡ cond own (toldAsked why) (checkOf table (now (seqs .entry)) (now (secs .entry))) ⌝ }
+{
+    let checked = check(table, seqs, secs);
+    first_of(own, why, checked)
 }

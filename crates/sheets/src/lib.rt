@@ -8,9 +8,12 @@ use questions::inner::judged;
 use tracker::Second;
 use tracker::Seq;
 use tracker::SequenceTracker;
-use tracker::check;
 
-mod filling; // filling.rt: the answers of a sheet, in a table that is checked
+mod by_second; // by_second.rt: the answers to questions by second
+mod by_seq; // by_seq.rt: the answers to questions by sequence
+
+// A sheet has so many places.
+const PLACES: usize = 16;
 
 // Questions by sequence. Of the sixteen places the first `used` are questions; the answers of the others are nobody's.
 #[repr(C)]
@@ -49,9 +52,7 @@ pub fn find_ts_16(
 ) -> TsSheetBack
     ensures { λ r. ⌜ FindsTs16 table (now (seqs .entry)) (now (secs .entry)) sheet «find_opt» r ⌝ }
 {
-    let checked = check(table, seqs, secs);
-    let too_many = sheet.used > 16;
-    let asked = judged(too_many, Asked::TooMany, checked);
+    let asked = judged(table, seqs, secs, sheet.used > PLACES, Asked::TooMany);
     let Asked::Done = asked else {
         return TsSheetBack {
             asked: asked,
@@ -59,7 +60,7 @@ pub fn find_ts_16(
         };
     };
     let n = table.count;
-    let answered = filling::ts_answers(seqs, secs, n, sheet, find_opt);
+    let answered = by_seq::answers(seqs, secs, n, sheet, find_opt);
     TsSheetBack {
         asked: asked,
         sheet: answered,
@@ -76,9 +77,7 @@ pub fn find_seq_16(
 ) -> SeqSheetBack
     ensures { λ r. ⌜ FindsSeq16 table (now (seqs .entry)) (now (secs .entry)) sheet «find_opt» r ⌝ }
 {
-    let checked = check(table, seqs, secs);
-    let too_many = sheet.used > 16;
-    let asked = judged(too_many, Asked::TooMany, checked);
+    let asked = judged(table, seqs, secs, sheet.used > PLACES, Asked::TooMany);
     let Asked::Done = asked else {
         return SeqSheetBack {
             asked: asked,
@@ -86,7 +85,7 @@ pub fn find_seq_16(
         };
     };
     let n = table.count;
-    let answered = filling::seq_answers(seqs, secs, n, sheet, find_opt);
+    let answered = by_second::answers(seqs, secs, n, sheet, find_opt);
     SeqSheetBack {
         asked: asked,
         sheet: answered,

@@ -3,7 +3,7 @@ use mathlib.Core.Path.{_≡_, refl}
 use mathlib.Core.Bool.{false}
 use mathlib.Core.List.{List, [], _∷_}
 use Prim.Native.Nat.{ℕ}
-use borrow.Author.Tests.{lt-ltb, eq-eqb}
+use borrow.Author.Tests.{lt-ltb, le-ltb, eq-eqb}
 use lib.Dec.{ltb}
 use lib.IntN.{ℤ}
 use lib.ListN.{length}
@@ -26,6 +26,8 @@ unusable t e = record {
   other = λ w seqs secs g. rw (g, e seqs secs);
   by-seq = λ seqs secs x opt. rw (e seqs secs);
   by-second = λ seqs secs x opt. rw (e seqs secs);
+  sheet = λ seqs secs used l. rw (le-ltb 16 used l, e seqs secs);
+  list = λ seqs secs n. rw (eq-eqb n n refl, e seqs secs);
   save = λ seqs secs room. rw (e seqs secs);
   save-strict = λ seqs secs room. rw (e seqs secs);
 }

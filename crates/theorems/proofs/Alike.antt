@@ -13,19 +13,49 @@ use Rattle.totals.specs.Totals.{sumOf, most}
 use Rattle.totals.specs.declared.Totals.{Totals}
 use Rattle.tracker.specs.Rest.{withTotals}
 use Rattle.tracker.specs.Table.{checkOf}
+use Rattle.tracker.specs.declared.Seq.{Seq}
+use Rattle.tracker.specs.declared.Second.{Second}
 use Rattle.tracker.specs.declared.SequenceTracker.{SequenceTracker}
 use Rattle.tracker.proofs.Good.{fine}
 use Rattle.tracker.proofs.Rest.{by-rest, with-rest, fit-check}
 use Rattle.keeping.specs.Keep.{keptWith}
 use Rattle.lookup.specs.Find.{findTs, findSeq}
 use Rattle.lookup.specs.Laws as lookups
+use Rattle.lookup.specs.declared.FindOption.{FindOption}
 use Rattle.lookup.proofs.Laws.{kept-ts, kept-seq}
+use Rattle.sheets.proofs.Alike as sheets
+use Rattle.question_lists.proofs.Alike as lists
 use Rattle.offers.specs.Whole.{Table, whole, checkIn, leaving}
 use Rattle.offers.specs.Offer.{recorded, wentBack, tooSoon, pairRefused}
 use Rattle.offers.proofs.Alike.{Alike, same-count, same-capacity, kept-seqs, kept-secs, same-rooms}
 use Rattle.log.specs.Rest.{logRest}
-use Rattle.theorems.specs.Alike.{KeptAlike, SameButTotals, ToldAlike, AnswerAlike, Room, RestAlone}
+use Rattle.theorems.specs.Alike.{KeptAlike, SameButTotals, ToldAlike, AskedAlike, AnswerAlike, Room, RestAlone}
 use Rattle.theorems.proofs.Logged.{kept-same, KeptUp, offer-alike, log-alike, pairs-alike, extend-alike, extend-by-alike}
+
+-- ---- many questions: where the check and the single lookups tell the same
+
+asked-alike : (w v : Table) → checkIn w ≡ checkIn v
+    → ((x : Seq) (opt : FindOption) → findTs (w .state) (w .seqs) (w .secs) x opt ≡ findTs (v .state) (v .seqs) (v .secs) x opt)
+    → ((x : Second) (opt : FindOption) → findSeq (w .state) (w .seqs) (w .secs) x opt ≡ findSeq (v .state) (v .seqs) (v .secs) x opt)
+    → (opt : FindOption) → AskedAlike w v opt
+asked-alike w v check ts seq opt = record {
+  by-ts-sheet = λ s r. (
+    sheets.ts-alike (w .state) (v .state) (w .seqs) (v .seqs) (w .secs) (v .secs) check opt (λ x. ts x opt) s r,
+    sheets.ts-alike (v .state) (w .state) (v .seqs) (w .seqs) (v .secs) (w .secs) (sym check) opt (λ x. sym (ts x opt)) s r,
+  );
+  by-seq-sheet = λ s r. (
+    sheets.seq-alike (w .state) (v .state) (w .seqs) (v .seqs) (w .secs) (v .secs) check opt (λ x. seq x opt) s r,
+    sheets.seq-alike (v .state) (w .state) (v .seqs) (w .seqs) (v .secs) (w .secs) (sym check) opt (λ x. sym (seq x opt)) s r,
+  );
+  by-ts-each = λ keys a f r a′ f′. (
+    lists.ts-alike (w .state) (v .state) (w .seqs) (v .seqs) (w .secs) (v .secs) check opt (λ x. ts x opt) keys a f r a′ f′,
+    lists.ts-alike (v .state) (w .state) (v .seqs) (w .seqs) (v .secs) (w .secs) (sym check) opt (λ x. sym (ts x opt)) keys a f r a′ f′,
+  );
+  by-seq-each = λ keys a f r a′ f′. (
+    lists.seq-alike (w .state) (v .state) (w .seqs) (v .seqs) (w .secs) (v .secs) check opt (λ x. seq x opt) keys a f r a′ f′,
+    lists.seq-alike (v .state) (w .state) (v .seqs) (w .seqs) (v .secs) (w .secs) (sym check) opt (λ x. sym (seq x opt)) keys a f r a′ f′,
+  );
+}
 
 -- ---- two good tables that are alike, with room for m more offers
 
@@ -38,6 +68,16 @@ module _ (Still So : Table → Table → Type 0) (keeps : KeptUp Still) (so : (w
   same-check : checkOf (w .state) (v .seqs) (v .secs) ≡ checkOf (withTotals (v .state .totals) (w .state)) (v .seqs) (v .secs)
   same-check = fit-check (w .state) (v .state .totals) (v .seqs) (v .secs) (omega (arith, room)) (omega (arith, room′))
 
+  same-ts : (x : Seq) (opt : FindOption) → findTs (w .state) (w .seqs) (w .secs) x opt ≡ findTs (v .state) (v .seqs) (v .secs) x opt
+  same-ts x opt =
+      kept-ts (w .state) (w .seqs) (v .seqs) (w .secs) (v .secs) x opt same-places
+      ∙ by-rest (λ (u : SequenceTracker). findTs (w .state) (v .seqs) (v .secs) x opt ≡ findTs u (v .seqs) (v .secs) x opt) (w .state) (v .state) (a .same-rest) (rw same-check)
+
+  same-seq : (x : Second) (opt : FindOption) → findSeq (w .state) (w .seqs) (w .secs) x opt ≡ findSeq (v .state) (v .seqs) (v .secs) x opt
+  same-seq x opt =
+      kept-seq (w .state) (w .seqs) (v .seqs) (w .secs) (v .secs) x opt same-places
+      ∙ by-rest (λ (u : SequenceTracker). findSeq (w .state) (v .seqs) (v .secs) x opt ≡ findSeq u (v .seqs) (v .secs) x opt) (w .state) (v .state) (a .same-rest) (rw same-check)
+
   pub answer-alike : AnswerAlike So m w v
   answer-alike = record {
     by-check = g ∙ sym g′;
@@ -46,12 +86,9 @@ module _ (Still So : Table → Table → Type 0) (keeps : KeptUp Still) (so : (w
     by-pairs = pairs-alike Still So keeps so w v g g′ a b m room room′;
     by-other = extend-alike Still So keeps so w v g g′ a b m room room′;
     as-other = extend-by-alike w v g g′ a;
-    by-seq = λ x opt.
-        kept-ts (w .state) (w .seqs) (v .seqs) (w .secs) (v .secs) x opt same-places
-        ∙ by-rest (λ (u : SequenceTracker). findTs (w .state) (v .seqs) (v .secs) x opt ≡ findTs u (v .seqs) (v .secs) x opt) (w .state) (v .state) (a .same-rest) (rw same-check);
-    by-second = λ x opt.
-        kept-seq (w .state) (w .seqs) (v .seqs) (w .secs) (v .secs) x opt same-places
-        ∙ by-rest (λ (u : SequenceTracker). findSeq (w .state) (v .seqs) (v .secs) x opt ≡ findSeq u (v .seqs) (v .secs) x opt) (w .state) (v .state) (a .same-rest) (rw same-check);
+    by-seq = same-ts;
+    by-second = same-seq;
+    by-asked = asked-alike w v (g ∙ sym g′) same-ts same-seq;
     by-strict = λ out. rw (g, g′, a .same-seqs, a .same-secs) (refl, refl);
     by-save = λ out. rw (g, g′, a .same-seqs, a .same-secs) (refl, refl);
   }
@@ -108,6 +145,7 @@ module _ (m : ℕ) (t : SequenceTracker) (n : Totals) (seqs : List ℕ) (secs : 
         as-other = λ other. rw (h, h′);
         by-seq = λ x opt. rw (h, h′);
         by-second = λ x opt. rw (h, h′);
+        by-asked = asked-alike own other-totals fits (λ x opt. rw (h, h′)) (λ x opt. rw (h, h′));
         by-strict = λ out. rw (h, h′) (refl, refl);
         by-save = λ out. rw (h, h′) (refl, refl);
       }

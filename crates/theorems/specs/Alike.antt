@@ -1,6 +1,7 @@
 -- What a table answers depends on the rest of its state, all of it but the totals, and on the pairs that it keeps, as long as the totals have room for the offers made.
 use Prim.Native.Nat.{ℕ, _+_, _≤_}
 use mathlib.Core.Path.{_≡_}
+use mathlib.Core.Logic.{_↔_}
 use mathlib.Core.List.{List}
 use lib.ListN.{length}
 use lib.IntN.{ℤ}
@@ -15,6 +16,13 @@ use Rattle.tracker.specs.declared.Second.{Second}
 use Rattle.tracker.specs.declared.TrackedSeq.{TrackedSeq}
 use Rattle.lookup.specs.Find.{findTs, findSeq}
 use Rattle.lookup.specs.declared.FindOption.{FindOption}
+use Rattle.questions.specs.declared.Asked.{Asked}
+use Rattle.sheets.specs.Sheet.{FindsTs16, FindsSeq16}
+use Rattle.sheets.specs.declared.TsSheet.{TsSheet}
+use Rattle.sheets.specs.declared.SeqSheet.{SeqSheet}
+use Rattle.sheets.specs.declared.TsSheetBack.{TsSheetBack}
+use Rattle.sheets.specs.declared.SeqSheetBack.{SeqSheetBack}
+use Rattle.question_lists.specs.Each.{FindsTsEach, FindsSeqEach}
 use Rattle.offers.specs.Whole.{Table, checkIn, Left}
 use Rattle.offers.specs.Offer.{offering}
 use Rattle.offers.specs.Rest.{offerRest}
@@ -49,6 +57,15 @@ SameButTotals w v = (restOf (w .state) ≡ restOf (v .state)) × (w .seqs ≡ v 
 abbrev pub ToldAlike : {A : Type 0} → (Table → Table → Type 0) → (A → A) → Left A → Left A → Type 0
 ToldAlike So rest l m = (rest (l .answer) ≡ rest (m .answer)) × So (l .table) (m .table)
 
+-- each sheet and each list of questions comes to the same: what fits the statement for one table fits that for the other
+pub record AskedAlike (w v : Table) (opt : FindOption) : Type 0 where
+  pub by-ts-sheet : (s : TsSheet) (r : TsSheetBack) → FindsTs16 (w .state) (w .seqs) (w .secs) s opt r ↔ FindsTs16 (v .state) (v .seqs) (v .secs) s opt r
+  pub by-seq-sheet : (s : SeqSheet) (r : SeqSheetBack) → FindsSeq16 (w .state) (w .seqs) (w .secs) s opt r ↔ FindsSeq16 (v .state) (v .seqs) (v .secs) s opt r
+  pub by-ts-each : (keys : List ℕ) (answers : List ℤ) (found : List ℕ) (r : Asked) (answers′ : List ℤ) (found′ : List ℕ)
+      → FindsTsEach (w .state) (w .seqs) (w .secs) keys opt answers found r answers′ found′ ↔ FindsTsEach (v .state) (v .seqs) (v .secs) keys opt answers found r answers′ found′
+  pub by-seq-each : (keys : List ℤ) (answers : List ℕ) (found : List ℕ) (r : Asked) (answers′ : List ℕ) (found′ : List ℕ)
+      → FindsSeqEach (w .state) (w .seqs) (w .secs) keys opt answers found r answers′ found′ ↔ FindsSeqEach (v .state) (v .seqs) (v .secs) keys opt answers found r answers′ found′
+
 -- two tables answer alike, where up to m more offers may come, and are so after these
 pub record AnswerAlike (So : Table → Table → Type 0) (m : ℕ) (w v : Table) : Type 0 where
   pub by-check : checkIn w ≡ checkIn v
@@ -61,6 +78,8 @@ pub record AnswerAlike (So : Table → Table → Type 0) (m : ℕ) (w v : Table)
   -- each lookup
   pub by-seq : (x : Seq) (opt : FindOption) → findTs (w .state) (w .seqs) (w .secs) x opt ≡ findTs (v .state) (v .seqs) (v .secs) x opt
   pub by-second : (x : Second) (opt : FindOption) → findSeq (w .state) (w .seqs) (w .secs) x opt ≡ findSeq (v .state) (v .seqs) (v .secs) x opt
+  -- each sheet and each list of questions
+  pub by-asked : (opt : FindOption) → AskedAlike w v opt
   -- each save, strict or not, and the buffer after it
   pub by-strict : (out : List ℕ) → (strictTo w out ≡ strictTo v out) × (filled (strictTo w out) (imageFor w) out ≡ filled (strictTo v out) (imageFor v) out)
   pub by-save : (out : List ℕ) → (saveTo w out ≡ saveTo v out) × (filled (saveTo w out) (imageFor w) out ≡ filled (saveTo v out) (imageFor v) out)

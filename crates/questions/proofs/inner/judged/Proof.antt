@@ -1,24 +1,20 @@
 use borrow.Author.Needs.{needs}
+use mathlib.Core.Path.{_∙_, ap}
+use mathlib.Core.Bool.{cond}
+use Rattle.questions.specs.Asked.{toldAsked}
 use Rattle.questions.proofs.inner.judged.Statement.{statement}
 use Rattle.questions.proofs.inner.judged.Tie as tie
 
-enum-told : tie.Need-enum-told
-enum-told c = search needs
+check-requires : tie.Need-check-requires
+check-requires c κs = search needs
 
-enum-known-checked : tie.Need-enum-known-checked
-enum-known-checked c = search needs
+first-of-requires : tie.Need-first-of-requires
+first-of-requires c κs = search needs
 
 returns : tie.Need-returns
-returns c = rw (c .if1 .taken)
-
-returns-2 : tie.Need-returns-2
-returns-2 c = rw (c .if1 .left, c .before .enum-told .given .1)
-
-returns-3 : tie.Need-returns-3
-returns-3 c = rw (c .if2 .taken)
-
-returns-4 : tie.Need-returns-4
-returns-4 c = rw (c .if2 .left, c .before .before .checked .given .1)
+returns c =
+    let a = c .before .before .before .args in
+    c .first-of .ensures ∙ ap (cond (a .own) (toldAsked (a .why))) (c .before .check .ensures)
 
 pub judged-spec : {M : Type 1} → statement M
-judged-spec = tie.close (tie.spec enum-told enum-known-checked returns returns-2 returns-3 returns-4)
+judged-spec = tie.close (tie.spec check-requires first-of-requires returns)

@@ -1,5 +1,9 @@
 use borrow.Author.Needs.{needs}
-use borrow.Author.Tests.{lt-ltb, le-ltb}
+use lib.IntN.{pos}
+use lib.Signed.{ltZ}
+use Rattle.lookup.specs.Find.{place, seqAt}
+use Rattle.questions.specs.Stands.{seqStands}
+use Rattle.questions.proofs.Found.{found-at, none-at}
 use Rattle.questions.proofs.inner.seq_answer.Statement.{statement}
 use Rattle.questions.proofs.inner.seq_answer.Tie as tie
 
@@ -13,10 +17,16 @@ shared-slice-read-sequence : tie.Need-shared-slice-read-sequence
 shared-slice-read-sequence c = search needs
 
 returns : tie.Need-returns
-returns c = rw (← c .before .before .place .ensures, lt-ltb _ _ (c .before .if1 .taken))
+returns c =
+    let found = c .before .before in
+    let a = found .before .before .args in
+    found-at seqStands (seqAt (a .seqs .now)) (a .n) (place ltZ (pos 0) (a .find-opt) (a .secs .now) (a .n) (a .ts .0)) (found .place .result) (found .place .ensures) (c .before .if1 .taken)
 
 returns-2 : tie.Need-returns-2
-returns-2 c = rw (← c .before .place .ensures, le-ltb _ _ (c .if1 .left))
+returns-2 c =
+    let found = c .before in
+    let a = found .before .before .args in
+    none-at seqStands (seqAt (a .seqs .now)) (a .n) (place ltZ (pos 0) (a .find-opt) (a .secs .now) (a .n) (a .ts .0)) (found .place .result) (found .place .ensures) (c .if1 .left)
 
 pub seq-answer-spec : {M : Type 1} → statement M
 seq-answer-spec =

@@ -10,8 +10,8 @@ use lib.ListN.{length, getD}
 use Rattle.questions.specs.Inner.{tsPartner}
 use Rattle.question_lists.specs.Inner.{FilledTs}
 use Rattle.question_lists.proofs.Fill.{filled-none, filled-more, tsMake, ts-mark}
-use Rattle.question_lists.proofs.filling.ts_answers.Statement.{statement}
-use Rattle.question_lists.proofs.filling.ts_answers.Tie as tie
+use Rattle.question_lists.proofs.by_seq.answers.Statement.{statement}
+use Rattle.question_lists.proofs.by_seq.answers.Tie as tie
 
 abbrev Inv-loop : tie.InvT-loop
 Inv-loop seqs secs n keys answers₀ found₀ find-opt m i₀ answers found i = FilledTs seqs secs n find-opt keys i answers₀ found₀ answers found × (i ≤ m)
@@ -75,8 +75,8 @@ returns c =
     let e : l .i ≡ length (a .keys .now) = omega arith in
     subst (λ (k : ℕ). FilledTs (a .seqs .now) (a .secs .now) (a .n) (a .find-opt) (a .keys .now) k (a .answers .now) (a .found .now) (l .answers) (l .found)) e (l .inv .0)
 
-pub ts-answers-spec : {M : Type 1} → statement M
-ts-answers-spec =
+pub answers-spec : {M : Type 1} → statement M
+answers-spec =
     tie.close
     (tie.spec
     Inv-loop

@@ -10,8 +10,8 @@ use lib.ListN.{length, getD}
 use Rattle.questions.specs.Inner.{seqPartner}
 use Rattle.question_lists.specs.Inner.{FilledSeq}
 use Rattle.question_lists.proofs.Fill.{filled-none, filled-more, seqMake, seq-mark}
-use Rattle.question_lists.proofs.filling.seq_answers.Statement.{statement}
-use Rattle.question_lists.proofs.filling.seq_answers.Tie as tie
+use Rattle.question_lists.proofs.by_second.answers.Statement.{statement}
+use Rattle.question_lists.proofs.by_second.answers.Tie as tie
 
 abbrev Inv-loop : tie.InvT-loop
 Inv-loop seqs secs n keys answers₀ found₀ find-opt m i₀ answers found i = FilledSeq seqs secs n find-opt keys i answers₀ found₀ answers found × (i ≤ m)
@@ -75,8 +75,8 @@ returns c =
     let e : l .i ≡ length (a .keys .now) = omega arith in
     subst (λ (k : ℕ). FilledSeq (a .seqs .now) (a .secs .now) (a .n) (a .find-opt) (a .keys .now) k (a .answers .now) (a .found .now) (l .answers) (l .found)) e (l .inv .0)
 
-pub seq-answers-spec : {M : Type 1} → statement M
-seq-answers-spec =
+pub answers-spec : {M : Type 1} → statement M
+answers-spec =
     tie.close
     (tie.spec
     Inv-loop
