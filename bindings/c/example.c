@@ -1,5 +1,5 @@
-/* A table from C: offers and why some are skipped, what they come to, a strict save, a restore, lookups by sequence and by date. The table outlives every refused
- * call. */
+/* A table from C: offers and why some are skipped, what they come to, a strict save, a restore, lookups by sequence and by date, and many at once. The table
+ * outlives every refused call. */
 #include "skutlaneb.h"
 
 #include <stdio.h>
@@ -11,6 +11,12 @@ _Static_assert(sizeof(struct skut_totals) == 32 && offsetof(struct skut_totals, 
 _Static_assert(sizeof(struct skut_state) == 64 && offsetof(struct skut_state, has_last) == 12 && offsetof(struct skut_state, totals) == 32, "skut_state");
 _Static_assert(sizeof(struct skut_tally) == 24 && offsetof(struct skut_tally, too_soon) == 16, "skut_tally");
 _Static_assert(sizeof(struct skut_table_answer) == 136 && offsetof(struct skut_table_answer, state) == 72, "skut_table_answer");
+_Static_assert(sizeof(struct skut_ts_answer) == 16 && offsetof(struct skut_ts_answer, second) == 8, "skut_ts_answer");
+_Static_assert(sizeof(struct skut_seq_answer) == 16 && offsetof(struct skut_seq_answer, seq) == 8, "skut_seq_answer");
+_Static_assert(sizeof(struct skut_ts_sheet) == 392 && offsetof(struct skut_ts_sheet, answers) == 128 && offsetof(struct skut_ts_sheet, used) == 384, "skut_ts_sheet");
+_Static_assert(sizeof(struct skut_seq_sheet) == 392 && offsetof(struct skut_seq_sheet, answers) == 128 && offsetof(struct skut_seq_sheet, used) == 384, "skut_seq_sheet");
+_Static_assert(sizeof(struct skut_ts_sheet_answer) == 440 && offsetof(struct skut_ts_sheet_answer, sheet) == 48, "skut_ts_sheet_answer");
+_Static_assert(sizeof(struct skut_seq_sheet_answer) == 440 && offsetof(struct skut_seq_sheet_answer, sheet) == 48, "skut_seq_sheet_answer");
 
 #define PLACES 8192
 
@@ -75,6 +81,26 @@ static int print_as_of(struct skut_state table, const char *date)
     return 1;
 }
 
+/* Prints the seconds of three sequences, and gives whether it could. The table is checked once for the sheet. Who has more than sixteen questions, or does not
+ * know how many, calls skut_find_ts_each. */
+static int print_at_once(struct skut_state table)
+{
+    struct skut_ts_sheet asked = {.keys = {99, 163, 164}, .used = 3};
+    struct skut_ts_sheet_answer said = skut_find_ts_16(table, seqs, PLACES, secs, PLACES, asked, SKUT_ROUND_DOWN);
+    if (said.answer.number != SKUT_DONE) {
+        return 0;
+    }
+    for (size_t i = 0; i < said.sheet.used; i++) {
+        printf("at once, sequence %llu: ", (unsigned long long)said.sheet.keys[i]);
+        if (said.sheet.answers[i].found) {
+            printf("second %lld or later\n", (long long)said.sheet.answers[i].second);
+        } else {
+            printf("nothing\n");
+        }
+    }
+    return 1;
+}
+
 int main(void)
 {
     const uint64_t from_seqs[] = {100, 164, 170, 170, 170, 150};
@@ -118,7 +144,7 @@ int main(void)
     if (said.answer.number != SKUT_DONE || !print_date_of(table, 163)) {
         return 1;
     }
-    if (!print_as_of(table, "1970-01-01T01:01:59.5+01:00") || !print_as_of(table, "1970-01-01T24:00:00Z")) {
+    if (!print_as_of(table, "1970-01-01T01:01:59.5+01:00") || !print_as_of(table, "1970-01-01T24:00:00Z") || !print_at_once(table)) {
         return 1;
     }
     print_totals("restored", table.totals); /* an image does not carry them */

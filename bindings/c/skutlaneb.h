@@ -67,8 +67,8 @@ struct skut_totals {
 
 /* A table's state. Its pairs stand in two arrays of the caller's, each of as many places as the capacity says and at least one; `count` places
  * are in use. `has_last` of 0 says that no second was recorded yet, 1 that `last` is the last recorded one; a state with any other number there is
- * refused by 14 (by skut_offer_pairs after 18), and so is one whose totals add up to more than 2^64-1. A caller passes a state on as a call returned it, with the
- * same arrays, and changes nothing in either. */
+ * refused by 14 (after 18 and 35, by the calls that have them), and so is one whose totals add up to more than 2^64-1. A caller passes a state on as a call
+ * returned it, with the same arrays, and changes nothing in either. */
 struct skut_state {
     size_t count;
     uint32_t capacity;
@@ -86,7 +86,7 @@ struct skut_tally {
     size_t recorded, went_back, too_soon;
 };
 
-/* What a call answers that returns a state. Where it returns none, `state` is one that every call refuses by 14, skut_offer_pairs after 18, and the numbers of
+/* What a call answers that returns a state. Where it returns none, `state` is one that every call refuses by 14, after 18 and 35 as above, and the numbers of
  * `tally` are 0; they are 0, too, where a table is made or restored, and where skut_offer is refused with 16 or 17. */
 struct skut_table_answer {
     struct skut_answer answer;
@@ -213,21 +213,22 @@ struct skut_answer skut_find_ts(struct skut_state state, const uint64_t *seqs, s
 struct skut_answer skut_find_seq(struct skut_state state, const uint64_t *seqs, size_t seqs_len, const int64_t *secs, size_t secs_len, int64_t sec, uint32_t round);
 
 /* The seconds of up to sixteen sequences: 35, before all else. The table is checked once; each question is answered as skut_find_ts would answer it, with one
- * `round` for all. Nothing is told in a, b, c. Stack: 2,048 bytes. */
+ * `round` for all. With 0 nothing is told in a, b, c. Stack: 1,536 bytes; until memset and memcpy are found, as in skut_restore, more by what the dynamic linker
+ * takes. */
 struct skut_ts_sheet_answer skut_find_ts_16(struct skut_state state, const uint64_t *seqs, size_t seqs_len, const int64_t *secs, size_t secs_len,
                                             struct skut_ts_sheet sheet, uint32_t round);
 
-/* The sequences of up to sixteen seconds, likewise, as skut_find_seq would answer. Stack: 2,048 bytes. */
+/* The sequences of up to sixteen seconds, likewise, as skut_find_seq would answer. Stack: 1,536 bytes; until memset and memcpy are found, more, too. */
 struct skut_seq_sheet_answer skut_find_seq_16(struct skut_state state, const uint64_t *seqs, size_t seqs_len, const int64_t *secs, size_t secs_len,
                                               struct skut_seq_sheet sheet, uint32_t round);
 
 /* The second of each sequence of a list, of any length: 18 where the three lengths are not one, before all else. The table is checked once; each question is
  * answered as skut_find_ts would answer it, with one `round` for all: the second in `answers` and 1 in `found` at the question's place, or 0 in both, and there is
- * none. Refused, both are as they were. Nothing is told in a, b, c. Stack: 512 bytes. */
+ * none. Refused, both are as they were. With 0 nothing is told in a, b, c. Stack: 384 bytes. */
 struct skut_answer skut_find_ts_each(struct skut_state state, const uint64_t *seqs, size_t seqs_len, const int64_t *secs, size_t secs_len,
                                      const uint64_t *keys, size_t keys_len, int64_t *answers, size_t answers_len, uint8_t *found, size_t found_len, uint32_t round);
 
-/* The sequence of each second of a list, likewise, as skut_find_seq would answer. Stack: 512 bytes. */
+/* The sequence of each second of a list, likewise, as skut_find_seq would answer. Stack: 384 bytes. */
 struct skut_answer skut_find_seq_each(struct skut_state state, const uint64_t *seqs, size_t seqs_len, const int64_t *secs, size_t secs_len,
                                       const int64_t *keys, size_t keys_len, uint64_t *answers, size_t answers_len, uint8_t *found, size_t found_len, uint32_t round);
 

@@ -60,6 +60,7 @@ void claim_cases(void);
 void reason_cases(void);
 void place_cases(void);
 void interval_cases(void);
+void question_cases(void);
 void total_cases(void);
 void date_cases(void);
 

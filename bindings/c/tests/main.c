@@ -12,6 +12,7 @@ int main(void)
     reason_cases();
     place_cases();
     interval_cases();
+    question_cases();
     total_cases();
     date_cases();
     return all_passed() ? 0 : 1;

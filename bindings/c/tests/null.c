@@ -25,6 +25,27 @@ struct lending {
 
 #define LENT lent->seqs, lent->seqs_len, lent->secs, lent->secs_len
 
+/* One question on a sheet, more than a sheet has, and lists of one question and of none. */
+static void bad_questions(struct skut_state table, const struct lending *lent)
+{
+    struct skut_ts_sheet ts = {.used = 1}, many_ts = {.used = 17};
+    struct skut_seq_sheet seq = {.used = 1}, many_seq = {.used = 17};
+    int64_t sec_to[1] = {7};
+    uint64_t seq_to[1] = {7};
+    uint8_t mark[1] = {7};
+    answers("skut_find_ts_16", lent->name, skut_find_ts_16(table, LENT, ts, SKUT_ROUND_UP).answer, SKUT_STATE_DISAGREES, 0, 0, 0);
+    answers("skut_find_ts_16, 35 first", lent->name, skut_find_ts_16(table, LENT, many_ts, SKUT_ROUND_UP).answer, SKUT_TOO_MANY_QUESTIONS, 0, 0, 0);
+    answers("skut_find_seq_16", lent->name, skut_find_seq_16(table, LENT, seq, SKUT_ROUND_DOWN).answer, SKUT_STATE_DISAGREES, 0, 0, 0);
+    answers("skut_find_seq_16, 35 first", lent->name, skut_find_seq_16(table, LENT, many_seq, SKUT_ROUND_DOWN).answer, SKUT_TOO_MANY_QUESTIONS, 0, 0, 0);
+    answers("skut_find_ts_each", lent->name, skut_find_ts_each(table, LENT, one_seq, 1, sec_to, 1, mark, 1, SKUT_ROUND_UP), SKUT_STATE_DISAGREES, 0, 0, 0);
+    answers("skut_find_ts_each of none", lent->name, skut_find_ts_each(table, LENT, NONE, NONE, NONE, SKUT_ROUND_UP), SKUT_STATE_DISAGREES, 0, 0, 0);
+    answers("skut_find_ts_each, 18 first", lent->name, skut_find_ts_each(table, LENT, NONE, sec_to, 1, mark, 1, SKUT_ROUND_UP), SKUT_LENGTHS_DIFFER, 0, 0, 0);
+    answers("skut_find_seq_each", lent->name, skut_find_seq_each(table, LENT, one_sec, 1, seq_to, 1, mark, 1, SKUT_ROUND_UP), SKUT_STATE_DISAGREES, 0, 0, 0);
+    answers("skut_find_seq_each of none", lent->name, skut_find_seq_each(table, LENT, NONE, NONE, NONE, SKUT_ROUND_UP), SKUT_STATE_DISAGREES, 0, 0, 0);
+    answers("skut_find_seq_each, 18 first", lent->name, skut_find_seq_each(table, LENT, one_sec, 1, NONE, mark, 1, SKUT_ROUND_UP), SKUT_LENGTHS_DIFFER, 0, 0, 0);
+    holds("the lists of questions", lent->name, sec_to[0] == 7 && seq_to[0] == 7 && mark[0] == 7, "a refused call wrote to them");
+}
+
 /* A table needs room for a pair at least, so that no table is good whose arrays are NULL. */
 static void bad_tables(struct skut_state table, const struct lending *lent)
 {
@@ -40,6 +61,7 @@ static void bad_tables(struct skut_state table, const struct lending *lent)
     gives_none("skut_extend_from, other", lent->name, skut_extend_from(table, ROOM, table, LENT), SKUT_STATE_DISAGREES, 1);
     answers("skut_find_ts", lent->name, skut_find_ts(table, LENT, 5, SKUT_ROUND_UP), SKUT_STATE_DISAGREES, 0, 0, 0);
     answers("skut_find_seq", lent->name, skut_find_seq(table, LENT, 60, SKUT_ROUND_DOWN), SKUT_STATE_DISAGREES, 0, 0, 0);
+    bad_questions(table, lent);
     answers("skut_save", lent->name, skut_save(table, LENT, out, sizeof out), SKUT_STATE_DISAGREES, 0, 0, 0);
     answers("skut_save, output NULL", lent->name, skut_save(table, LENT, NONE), SKUT_STATE_DISAGREES, 0, 0, 0);
     answers("skut_save_strict", lent->name, skut_save_strict(table, LENT, out, sizeof out), SKUT_STATE_DISAGREES, 0, 0, 0);
@@ -66,6 +88,23 @@ static void good_tables(struct skut_state table)
     answers("skut_find_seq", "an empty table", skut_find_seq(table, ROOM, 60, SKUT_ROUND_UP), SKUT_DONE, 0, 0, 0);
     answers("skut_save", "an empty table, output NULL", skut_save(table, ROOM, NONE), SKUT_ROOM, 13, 0, 0);
     answers("skut_save_strict", "an empty table, output NULL", skut_save_strict(table, ROOM, NONE), SKUT_ROOM, 13, 0, 0);
+}
+
+/* Lists of no question, and lists of which one or two are NULL. */
+static void good_questions(struct skut_state table)
+{
+    int64_t sec_to[1] = {7};
+    uint64_t seq_to[1] = {7};
+    uint8_t mark[1] = {7};
+    answers("skut_find_ts_each", "all NULL", skut_find_ts_each(table, ROOM, NONE, NONE, NONE, SKUT_ROUND_UP), SKUT_DONE, 0, 0, 0);
+    answers("skut_find_ts_each", "the questions NULL", skut_find_ts_each(table, ROOM, NONE, sec_to, 1, mark, 1, SKUT_ROUND_UP), SKUT_LENGTHS_DIFFER, 0, 0, 0);
+    answers("skut_find_ts_each", "the answers NULL", skut_find_ts_each(table, ROOM, one_seq, 1, NONE, mark, 1, SKUT_ROUND_UP), SKUT_LENGTHS_DIFFER, 0, 0, 0);
+    answers("skut_find_ts_each", "the marks NULL", skut_find_ts_each(table, ROOM, one_seq, 1, sec_to, 1, NONE, SKUT_ROUND_UP), SKUT_LENGTHS_DIFFER, 0, 0, 0);
+    answers("skut_find_seq_each", "all NULL", skut_find_seq_each(table, ROOM, NONE, NONE, NONE, SKUT_ROUND_UP), SKUT_DONE, 0, 0, 0);
+    answers("skut_find_seq_each", "the questions NULL", skut_find_seq_each(table, ROOM, NONE, seq_to, 1, mark, 1, SKUT_ROUND_UP), SKUT_LENGTHS_DIFFER, 0, 0, 0);
+    answers("skut_find_seq_each", "the answers NULL", skut_find_seq_each(table, ROOM, one_sec, 1, NONE, mark, 1, SKUT_ROUND_UP), SKUT_LENGTHS_DIFFER, 0, 0, 0);
+    answers("skut_find_seq_each", "the marks NULL", skut_find_seq_each(table, ROOM, one_sec, 1, seq_to, 1, NONE, SKUT_ROUND_UP), SKUT_LENGTHS_DIFFER, 0, 0, 0);
+    holds("the lists of questions", "one is NULL", sec_to[0] == 7 && seq_to[0] == 7 && mark[0] == 7, "a refused call wrote to them");
 }
 
 static void encoders(void)
@@ -137,6 +176,7 @@ void null_cases(void)
         lists(&lendings[i]);
     }
     good_tables(skut_new().state);
+    good_questions(skut_new().state);
     encoders();
     readers();
     bits();

@@ -2,8 +2,11 @@
 //!
 //! Why the calls are safe: each pointer goes with the length of the slice that it comes from, and what a call writes to is borrowed mutably, so that it
 //! overlaps nothing else. The library asks nothing more: whatever the numbers say, it stays within those lengths.
-use crate::sys::{self, Answer, State, TableAnswer};
-use crate::Error;
+//!
+//! Why a list of questions and its answers may be lent as numbers: `Seq` and `Second` are `repr(transparent)`, so that a slice of them is laid out as one of their
+//! numbers, and whatever number is written there is one of them. A `bool` is a byte that holds 0 or 1, and the library writes nothing else to a mark, as is proved.
+use crate::sys::{self, Answer, SeqSheet, SeqSheetAnswer, State, TableAnswer, TsSheet, TsSheetAnswer};
+use crate::{Error, Second, Seq};
 
 /// The answer of a call that was not refused.
 pub fn done(answer: Answer) -> Result<Answer, Error> {
@@ -42,6 +45,28 @@ pub fn find_ts(state: State, seqs: &[u64], secs: &[i64], seq: u64, round: u32) -
 
 pub fn find_seq(state: State, seqs: &[u64], secs: &[i64], sec: i64, round: u32) -> Answer {
     unsafe { sys::skut_find_seq(state, seqs.as_ptr(), seqs.len(), secs.as_ptr(), secs.len(), sec, round) }
+}
+
+pub fn find_ts_16(state: State, seqs: &[u64], secs: &[i64], sheet: TsSheet, round: u32) -> TsSheetAnswer {
+    unsafe { sys::skut_find_ts_16(state, seqs.as_ptr(), seqs.len(), secs.as_ptr(), secs.len(), sheet, round) }
+}
+
+pub fn find_seq_16(state: State, seqs: &[u64], secs: &[i64], sheet: SeqSheet, round: u32) -> SeqSheetAnswer {
+    unsafe { sys::skut_find_seq_16(state, seqs.as_ptr(), seqs.len(), secs.as_ptr(), secs.len(), sheet, round) }
+}
+
+/// `to` has the answers and the marks.
+pub fn find_ts_each(state: State, seqs: &[u64], secs: &[i64], keys: &[Seq], to: (&mut [Second], &mut [bool]), round: u32) -> Answer {
+    let (s, n, z, m) = (seqs.as_ptr(), seqs.len(), secs.as_ptr(), secs.len());
+    let (k, a, f) = (keys.as_ptr().cast::<u64>(), to.0.as_mut_ptr().cast::<i64>(), to.1.as_mut_ptr().cast::<u8>());
+    unsafe { sys::skut_find_ts_each(state, s, n, z, m, k, keys.len(), a, to.0.len(), f, to.1.len(), round) }
+}
+
+/// `to` has the answers and the marks.
+pub fn find_seq_each(state: State, seqs: &[u64], secs: &[i64], keys: &[Second], to: (&mut [Seq], &mut [bool]), round: u32) -> Answer {
+    let (s, n, z, m) = (seqs.as_ptr(), seqs.len(), secs.as_ptr(), secs.len());
+    let (k, a, f) = (keys.as_ptr().cast::<i64>(), to.0.as_mut_ptr().cast::<u64>(), to.1.as_mut_ptr().cast::<u8>());
+    unsafe { sys::skut_find_seq_each(state, s, n, z, m, k, keys.len(), a, to.0.len(), f, to.1.len(), round) }
 }
 
 pub fn save(state: State, seqs: &[u64], secs: &[i64], out: &mut [u8]) -> Answer {

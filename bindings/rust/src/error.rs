@@ -211,7 +211,9 @@ impl fmt::Display for Error {
             Error::CountCut { array, .. } => write!(f, "at the count of the {array}, which begins there: its 32 bits are not all there"),
             Error::FirstCut { array, .. } => write!(f, "at the first of the {array}, which begins there: its 64 bits are not all there"),
             Error::CodeMissing { array, index, .. } => write!(f, "before the code of value {index} of the {array}: no bit of it is there"),
-            Error::PrefixCut { array, index, .. } => write!(f, "within the code of value {index} of the {array}, which begins there: its prefix is not all there"),
+            Error::PrefixCut { array, index, .. } => {
+                write!(f, "within the code of value {index} of the {array}, which begins there: its prefix is not all there")
+            }
             Error::DifferenceCut { array, index, width, .. } => {
                 write!(f, "within the code of value {index} of the {array}, which begins there: the {width} bits after its prefix are not all there")
             }
@@ -224,7 +226,7 @@ impl fmt::Display for Error {
             Error::Settings => f.write_str("the capacity is above 8,192 or the interval above 2^63-1 seconds"),
             Error::OfferedOutside => f.write_str("the second is outside the years 0001 to 9999"),
             Error::OfferedDrops => f.write_str("the sequence number is below the last one that the table keeps"),
-            Error::LengthsDiffer => f.write_str("there are not as many seconds as sequences"),
+            Error::LengthsDiffer => f.write_str("the arrays or lists of one call differ in length"),
             Error::TooManyValues => f.write_str("there are more than 65,536 values to encode"),
             Error::Wide { array, index } => write!(
                 f,

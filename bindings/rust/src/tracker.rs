@@ -2,6 +2,7 @@
 mod lookups;
 mod offers;
 mod pairs;
+mod questions;
 mod stored;
 mod totals;
 
@@ -13,6 +14,7 @@ use std::fmt;
 pub use lookups::FindOption;
 pub use offers::Inserted;
 pub use pairs::Pairs;
+pub use questions::{SeqSheet, Sheet, TsSheet};
 pub use totals::Totals;
 
 /// Which second a sequence number belongs to, and which sequence number a second.
@@ -38,8 +40,8 @@ pub use totals::Totals;
 /// # What a call costs
 ///
 /// Every offer, lookup and save checks the whole table and is refused where the check fails, so that a wrong answer is not given in silence. The check takes
-/// some 8 instructions for each kept pair. Of lookups, [`SequenceTracker::find_ts`] says what that comes to and what to do about it; of a list of offers,
-/// [`SequenceTracker::insert_all`] checks once.
+/// some 8 instructions for each kept pair. Of lookups, [`SequenceTracker::find_ts`] says what that comes to and what to do about it. Of many at once the table is
+/// checked once: of a list of offers by [`SequenceTracker::insert_all`], of questions by [`SequenceTracker::find_ts_16`] and [`SequenceTracker::find_ts_each`].
 ///
 /// # Clones and `==`
 ///

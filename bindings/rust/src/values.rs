@@ -1,12 +1,13 @@
 //! Sequence numbers and seconds: two types, so that one is not passed as the other.
 use std::fmt;
 
-/// A sequence number.
+/// A sequence number. It is laid out as the number, so that a slice of them is lent to the library as it stands.
 #[derive(Clone, Copy, Debug, PartialEq, Eq, PartialOrd, Ord, Hash)]
+#[repr(transparent)]
 pub struct Seq(pub u64);
 
-/// Seconds since 1970-01-01T00:00:00Z, negative before it. It prints as that number; [`Second::to_rfc3339`] gives its date, and [`Second::from_rfc3339`] the
-/// second of one.
+/// Seconds since 1970-01-01T00:00:00Z, negative before it. It is laid out as that number, as a [`Seq`] is, and prints as it; [`Second::to_rfc3339`] gives its
+/// date, and [`Second::from_rfc3339`] the second of one.
 ///
 /// A [`SystemTime`](std::time::SystemTime) becomes a `Second` by `from`, and a `Second` one of those by `try_from`. This crate does not depend on chrono.
 /// With it, a `DateTime<Utc>` becomes the second that slatedb takes from it, and a second the date that slatedb answers, by these lines:
@@ -24,6 +25,7 @@ pub struct Seq(pub u64);
 /// let date = DateTime::<Utc>::from(SystemTime::try_from(second)?);
 /// ```
 #[derive(Clone, Copy, Debug, PartialEq, Eq, PartialOrd, Ord, Hash)]
+#[repr(transparent)]
 pub struct Second(pub i64);
 
 /// A sequence number and the second that it belongs to. Pairs are ordered by the sequence number, and those of one sequence number by the second.

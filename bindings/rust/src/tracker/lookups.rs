@@ -13,7 +13,7 @@ pub enum FindOption {
 }
 
 impl FindOption {
-    fn number(self) -> u32 {
+    pub(super) fn number(self) -> u32 {
         match self {
             FindOption::RoundUp => 0,
             FindOption::RoundDown => 1,
@@ -30,28 +30,18 @@ impl SequenceTracker {
     /// Each one checks the whole table first, some 8 instructions for each kept pair. In 8,192 pairs it takes some 230 times the instructions of slatedb's, in
     /// 512 some 17 times; in one pair not more than slatedb's, or 4 times where slatedb finds nothing (docs/SPEED.md). What to do about it:
     ///
+    /// - Ask many questions of one table at once: [`SequenceTracker::find_ts_16`] takes up to sixteen and [`SequenceTracker::find_ts_each`] any number. Each
+    ///   checks the table once for all of them, and answers every one as this call does.
     /// - Look up rarely: keep an answer that is asked for again, until the next offer.
     /// - Keep the table small, by a smaller capacity; but storage brings a table back with capacity 8,192.
-    /// - Ask many questions of a copy. The copy below is sound: the table is checked once, its pairs are in order then, and nobody else can change the
-    ///   copy. The search is the caller's own code, and not proved.
-    ///
-    /// ```no_run
-    /// # use skutlaneb::{Error, Second, Seq, SequenceTracker, TrackedSeq};
-    /// /// For each sequence number what `find_ts` answers with `RoundUp`. With `RoundDown` it is the pair before `partition_point(|pair| pair.seq <= *seq)`.
-    /// fn seconds(tracker: &SequenceTracker, asked: &[Seq]) -> Result<Vec<Option<Second>>, Error> {
-    ///     tracker.check()?;
-    ///     let pairs: Vec<TrackedSeq> = tracker.pairs().collect();
-    ///     let first_not_below = |seq: &Seq| pairs.partition_point(|pair| pair.seq < *seq);
-    ///     Ok(asked.iter().map(|seq| pairs.get(first_not_below(seq)).map(|pair| pair.ts)).collect())
-    /// }
-    /// ```
     pub fn find_ts(&self, seq: impl Into<Seq>, opt: FindOption) -> Result<Option<Second>, Error> {
         let found = done(calls::find_ts(self.state, &self.seqs, &self.secs, seq.into().0, opt.number()))?;
         Ok((found.a == 1).then_some(Second(found.b as i64)))
     }
 
     /// The sequence number of a second. Among equal seconds the first one kept answers with `RoundUp`, the last one with `RoundDown`: what stood as of a second is
-    /// asked for with `RoundDown`. It costs what [`SequenceTracker::find_ts`] costs.
+    /// asked for with `RoundDown`. It costs what [`SequenceTracker::find_ts`] costs; [`SequenceTracker::find_seq_16`] and [`SequenceTracker::find_seq_each`] ask
+    /// many questions at once.
     pub fn find_seq(&self, ts: impl Into<Second>, opt: FindOption) -> Result<Option<Seq>, Error> {
         let found = done(calls::find_seq(self.state, &self.seqs, &self.secs, ts.into().0, opt.number()))?;
         Ok((found.a == 1).then_some(Seq(found.b)))

@@ -1,9 +1,9 @@
-//! What the docs claim of storage and of cost, and where the claims end.
+//! What the docs claim of storage and show of many questions, and where the claims end.
 use crate::run::Case;
 use crate::tables::{but_totals, kept, pair, table};
 use skutlaneb::FindOption::{RoundDown, RoundUp};
 use skutlaneb::Inserted::{Recorded, TooSoon, WentBack};
-use skutlaneb::{sys, Error, Second, Seq, SequenceTracker, Totals, TrackedSeq};
+use skutlaneb::{sys, Error, Second, Seq, SequenceTracker, Totals, TrackedSeq, TsSheet};
 
 pub const CASES: &[Case] = &[
     ("at the default settings a strictly saved table comes back as it was but for its totals, also once it has dropped pairs", comes_back),
@@ -17,7 +17,7 @@ pub const CASES: &[Case] = &[
     ("a changed byte reads as another table", other_pairs),
     ("a clone is the table with its last recorded second and its totals, in arrays of its own", clones),
     ("equal tables may answer the same offer differently", equal_but_other),
-    ("a table is checked, and questions to a copy of its pairs are answered as the lookups answer them", copied),
+    ("questions asked at once are answered as the docs show", at_once),
 ];
 
 /// 8,200 offers, each as soon after the one before as the table's interval lets it, with a save and a restore before, at and after the halving.
@@ -166,19 +166,10 @@ fn equal_but_other() {
     assert_eq!((one.insert(pair(5, 35)), other.insert(pair(5, 35))), (Ok(WentBack), Ok(Recorded)));
 }
 
-/// The two searches that the docs of `find_ts` show.
-fn seconds(tracker: &SequenceTracker, seq: Seq) -> Result<(Option<Second>, Option<Second>), Error> {
-    tracker.check()?;
-    let pairs: Vec<TrackedSeq> = tracker.pairs().collect();
-    let first_not_below = pairs.partition_point(|pair| pair.seq < seq);
-    let first_above = pairs.partition_point(|pair| pair.seq <= seq);
-    Ok((pairs.get(first_not_below).map(|pair| pair.ts), pairs[..first_above].last().map(|pair| pair.ts)))
-}
-
-fn copied() {
-    let tracker = table(9, 0, &[(2, 10), (2, 20), (5, 20), (5, 30), (5, 31), (9, 40)]);
-    for seq in (0..12).map(Seq) {
-        assert_eq!(seconds(&tracker, seq), Ok((tracker.find_ts(seq, RoundUp).unwrap(), tracker.find_ts(seq, RoundDown).unwrap())));
-    }
-    assert_eq!(SequenceTracker::new().check(), Ok(()));
+fn at_once() {
+    let tracker = table(8192, 10, &[(100, 0), (164, 60)]);
+    let sheet = tracker.find_ts_16(TsSheet::of(&[Seq(163), Seq(164), Seq(99)]).unwrap(), RoundDown).unwrap();
+    assert_eq!(sheet.answers[..sheet.used], [Some(Second(0)), Some(Second(60)), None]);
+    let seconds = tracker.find_ts_each(&[Seq(99), Seq(101), Seq(165)], RoundUp).unwrap();
+    assert_eq!(seconds, [Some(Second(0)), Some(Second(60)), None]);
 }

@@ -12,6 +12,7 @@ mod intervals;
 mod lists;
 mod pairs;
 mod places;
+mod questions;
 mod raw;
 mod reasons;
 mod run;
@@ -24,7 +25,7 @@ mod values;
 
 #[no_mangle]
 pub extern "C" fn main(_argc: i32, _argv: *const *const u8) -> i32 {
-    let tracker = [tables::CASES, pairs::CASES, lists::CASES, reasons::CASES, totals::CASES, halving::CASES];
+    let tracker = [tables::CASES, pairs::CASES, questions::CASES, lists::CASES, reasons::CASES, totals::CASES, halving::CASES];
     let stored = [images::CASES, intervals::CASES, places::CASES, claims::CASES, runs::CASES];
     let others = [values::CASES, times::CASES, dates::CASES, errors::CASES, arrays::CASES, bits::CASES, raw::CASES, stack::CASES];
     run::run(&[tracker.concat(), stored.concat(), others.concat()].concat())

@@ -3,12 +3,12 @@
 //! A call is made on painted memory, its arguments laid out here by the rules of the System V convention, so that no frame of this program stands there. What
 //! is written to is the arguments that go by the stack, the return address and what the library uses: the same in a debug and in a release build.
 use crate::run::Case;
-use skutlaneb::sys::{self, State, TableAnswer, Totals};
+use skutlaneb::sys::{self, State, Totals, TsSheetAnswer};
 use std::mem::size_of;
 
 pub const CASES: &[Case] = &[
     ("no call needs more stack than the header says", stack),
-    ("nor does one that is refused for its interval, its offer or its date, or where bytes, bits or a list of offers stop", refused),
+    ("nor does one that is refused for its interval, its offer, its questions or its date, or where bytes, bits or a list of offers stop", refused),
 ];
 
 const HEADER: &str = include_str!("../../../c/skutlaneb.h");
@@ -19,12 +19,13 @@ const ROOM: usize = 80_000;
 const LATE: i64 = 253_402_300_799;
 const LONG: &str = "2024-02-29T23:59:59.123456789-23:59";
 
-/// A full table, and memory for its image.
+/// A full table, memory for its image or for marks, and memory for answers.
 struct Lent {
     state: State,
     seqs: Vec<u64>,
     secs: Vec<i64>,
     bytes: Vec<u8>,
+    answers: Vec<u64>,
 }
 
 /// Pairs of which no code is one bit, and their image.
@@ -35,17 +36,39 @@ fn full() -> Lent {
     let mut bytes = vec![0; ROOM];
     let saved = unsafe { sys::skut_save_strict(state, seqs.as_ptr(), PAIRS, secs.as_ptr(), PAIRS, bytes.as_mut_ptr(), ROOM) };
     assert_eq!(saved.number, 0);
-    Lent { state, seqs, secs, bytes }
+    Lent { state, seqs, secs, bytes, answers: vec![0; QUESTIONS.len()] }
 }
 
-/// An argument: a number or a pointer, which goes by a register while there is one, or a state, which goes by the stack.
+/// An argument: a number or a pointer, which goes by a register while there is one, or a state or a sheet, which go by the stack.
 enum Arg {
     Word(u64),
     Table(State),
+    Questions(Sheet),
 }
-use Arg::{Table, Word};
+use Arg::{Questions, Table, Word};
+
+/// A sheet of either kind: sixteen keys, sixteen answers of two words, and how many are used.
+type Sheet = [u64; 49];
+
+/// The questions of a list.
+static QUESTIONS: [u64; 17] = [3; 17];
 
 type Call = (&'static str, *const (), Vec<Arg>);
+
+/// The calls with many questions: so many on the sheets, and with room for so many answers in the lists.
+fn questions(l: &mut Lent, state: State, used: u64, answers: u64) -> Vec<Call> {
+    let (n, k) = (PAIRS as u64, QUESTIONS.len() as u64);
+    let arrays = [l.seqs.as_mut_ptr() as u64, n, l.secs.as_mut_ptr() as u64, n];
+    let list = [QUESTIONS.as_ptr() as u64, k, l.answers.as_mut_ptr() as u64, answers, l.bytes.as_mut_ptr() as u64, k, 0];
+    let sheet: Sheet = std::array::from_fn(|i| if i == 48 { used } else { 3 * i as u64 });
+    let table = |more: Vec<Arg>| std::iter::once(Table(state)).chain(arrays.map(Word)).chain(more).collect::<Vec<_>>();
+    vec![
+        ("skut_find_ts_16", sys::skut_find_ts_16 as *const (), table(vec![Questions(sheet), Word(0)])),
+        ("skut_find_seq_16", sys::skut_find_seq_16 as *const (), table(vec![Questions(sheet), Word(0)])),
+        ("skut_find_ts_each", sys::skut_find_ts_each as *const (), table(list.map(Word).into())),
+        ("skut_find_seq_each", sys::skut_find_seq_each as *const (), table(list.map(Word).into())),
+    ]
+}
 
 /// Each call where it does all of its work.
 fn calls(l: &mut Lent) -> Vec<Call> {
@@ -57,7 +80,8 @@ fn calls(l: &mut Lent) -> Vec<Call> {
     let table = |more: &[u64]| std::iter::once(Table(state)).chain(arrays(more)).collect::<Vec<_>>();
     let other = State { count: 1, capacity: 1, has_last: 1, interval_secs: 0, last: 9000, totals: Totals::default() };
     let extended = table(&[]).into_iter().chain([Table(other)]).chain(words(&[one_seq, 1, one_sec, 1])).collect();
-    vec![
+    let mut calls = questions(l, state, 16, QUESTIONS.len() as u64);
+    calls.extend([
         ("skut_new", sys::skut_new as *const (), words(&[])),
         ("skut_with_config", sys::skut_with_config as *const (), words(&[4, 0])),
         ("skut_check", sys::skut_check as *const (), table(&[])),
@@ -80,7 +104,8 @@ fn calls(l: &mut Lent) -> Vec<Call> {
         ("skut_write_bits", sys::skut_write_bits as *const (), words(&[b, room, 3, 3, 7, 64])),
         ("skut_write_date", sys::skut_write_date as *const (), words(&[LATE as u64, b, room])),
         ("skut_read_date", sys::skut_read_date as *const (), words(&[LONG.as_ptr() as u64, LONG.len() as u64])),
-    ]
+    ]);
+    calls
 }
 
 /// What goes by the five registers that the place of the answer leaves, and what goes by the stack.
@@ -93,6 +118,7 @@ fn laid_out(args: &[Arg]) -> ([u64; 5], Vec<u64>) {
                 used += 1;
             }
             Word(word) => pushed.push(word),
+            Questions(words) => pushed.extend(words),
             Table(s) => {
                 pushed.extend([s.count as u64, u64::from(s.capacity) | u64::from(s.has_last) << 32, s.interval_secs, s.last as u64]);
                 pushed.extend([s.totals.recorded, s.totals.went_back, s.totals.too_soon, s.totals.refused]);
@@ -111,7 +137,8 @@ fn stack_of(&(_, function, ref args): &Call) -> (u32, usize) {
     let skipped = (painted.as_ptr() as usize / 8 + painted.len() - pushed.len()) % 2;
     let at = painted.len() - pushed.len() - skipped;
     painted[at..at + pushed.len()].copy_from_slice(&pushed);
-    let mut answer = [u64::MAX; size_of::<TableAnswer>() / 8];
+    // No answer is longer than that of a sheet.
+    let mut answer = [u64::MAX; size_of::<TsSheetAnswer>() / 8];
     unsafe {
         std::arch::asm!(
             "mov r12, rsp",
@@ -155,6 +182,13 @@ fn stack() {
     assert_eq!(HEADER.matches("Stack: ").count(), number);
 }
 
+/// Questions that are too many for a sheet, lists of different length, and questions to a bad table.
+fn refused_questions(lent: &mut Lent) -> Vec<(u32, Call)> {
+    let (state, bad) = (lent.state, State { has_last: 2, ..lent.state });
+    let too_many = [35, 35, 18, 18].into_iter().zip(questions(lent, state, 17, 16));
+    too_many.chain([14; 4].into_iter().zip(questions(lent, bad, 16, 17))).collect()
+}
+
 fn refused() {
     // Nine pairs of zeros up to the seconds' codes: the header, the sequences with a byte of codes, and the seconds' count and first value.
     let start = [&[1, 9, 0, 0, 0][..], &[0, 0, 0, 9, 0, 0, 0, 0, 0, 0, 0, 0, 0], &[0, 0, 0, 9, 0, 0, 0, 0, 0, 0, 0, 0]].concat();
@@ -188,6 +222,7 @@ fn refused() {
             calls.push((number, ("skut_extend_from", sys::skut_extend_from as *const (), extended)));
         }
     }
+    calls.extend(refused_questions(&mut lent));
     let date = |text: &'static str| ("skut_read_date", sys::skut_read_date as *const (), words(&[text.as_ptr() as u64, text.len() as u64]));
     calls.push((25, date("2024-02-29T23:59:59.123456789-23:5x")));
     calls.push((26, date("2023-02-29T23:59:59.123456789-23:59")));

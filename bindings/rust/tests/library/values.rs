@@ -3,7 +3,8 @@ use crate::run::Case;
 use crate::tables::pair;
 use skutlaneb::bits::Place;
 use skutlaneb::{
-    Array, Error, FindOption, Inserted, ListError, NoSystemTime, Pairs, Rfc3339, Second, Seq, SequenceTracker, Tally, Totals, TrackedSeq,
+    Array, Error, FindOption, Inserted, ListError, NoSystemTime, Pairs, Rfc3339, Second, Seq, SeqSheet, SequenceTracker, Tally, Totals, TrackedSeq,
+    TsSheet,
 };
 use std::collections::HashSet;
 use std::hash::Hash;
@@ -57,11 +58,13 @@ fn keys() {
     assert_eq!(distinct([NoSystemTime(Second(1)), NoSystemTime(Second(2))]), 2);
     assert_eq!(distinct([Place { byte: 1, bit: 0 }, Place { byte: 0, bit: 1 }]), 2);
     assert_eq!(distinct([0, 1, 0].map(|second| Second(second).to_rfc3339().unwrap())), 2);
+    assert_eq!(distinct([&[Seq(1)][..], &[Seq(2)], &[Seq(1)], &[]].map(|keys| TsSheet::of(keys).unwrap())), 3);
+    assert_eq!(distinct([&[Second(1)][..], &[Second(2)], &[Second(1)], &[Second(1); 2]].map(|keys| SeqSheet::of(keys).unwrap())), 3);
 }
 
 fn threads() {
     fn goes<T: Send + Sync + Unpin + std::panic::UnwindSafe + 'static>() {}
-    goes::<(SequenceTracker, Pairs<'static>, Totals, Error, ListError, NoSystemTime, Rfc3339)>();
+    goes::<(SequenceTracker, Pairs<'static>, TsSheet, SeqSheet, Totals, Error, ListError, NoSystemTime, Rfc3339)>();
 }
 
 fn readme() {
