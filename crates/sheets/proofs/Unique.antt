@@ -14,7 +14,7 @@ use Rattle.questions.specs.declared.TsAnswer.{TsAnswer}
 use Rattle.questions.specs.declared.SeqAnswer.{SeqAnswer}
 use Rattle.questions.proofs.Answered.{answered-once}
 use Rattle.questions.proofs.Unique.{one-asked}
-use Rattle.sheets.specs.Sheet.{Sheet, Filled, ComesBack, sheetRule, FindsTs16, FindsSeq16, tsSheet, seqSheet}
+use Rattle.sheets.specs.Sheet.{Sheet, Filled, ComesBack, sheetRule, TsBack, SeqBack, FindsTs16, FindsSeq16, tsSheet, seqSheet}
 use Rattle.sheets.specs.declared.TsSheet.{TsSheet}
 use Rattle.sheets.specs.declared.SeqSheet.{SeqSheet}
 use Rattle.sheets.specs.declared.TsSheetBack.{TsSheetBack}
@@ -42,14 +42,20 @@ ts-parts s t e = ap (λ (u : Sheet Seq TsAnswer). record { keys = u .keys; answe
 seq-parts : (s t : SeqSheet) → seqSheet s ≡ seqSheet t → s ≡ t
 seq-parts s t e = ap (λ (u : Sheet Second SeqAnswer). record { keys = u .keys; answers = u .answers; used = u .used }) e
 
+-- of what comes back
+pub one-ts-back : (table : SequenceTracker) (seqs : List ℕ) (secs : List ℤ) (s : TsSheet) (opt : FindOption) (b₁ b₂ : TsSheet)
+    → TsBack table seqs secs s opt b₁ → TsBack table seqs secs s opt b₂ → b₁ ≡ b₂
+one-ts-back table seqs secs s opt b₁ b₂ f g = ts-parts b₁ b₂ (one-back _ _ _ (sheetRule table seqs secs (s .used)) (tsSheet s) (tsSheet b₁) (tsSheet b₂) f g)
+
+pub one-seq-back : (table : SequenceTracker) (seqs : List ℕ) (secs : List ℤ) (s : SeqSheet) (opt : FindOption) (b₁ b₂ : SeqSheet)
+    → SeqBack table seqs secs s opt b₁ → SeqBack table seqs secs s opt b₂ → b₁ ≡ b₂
+one-seq-back table seqs secs s opt b₁ b₂ f g = seq-parts b₁ b₂ (one-back _ _ _ (sheetRule table seqs secs (s .used)) (seqSheet s) (seqSheet b₁) (seqSheet b₂) f g)
+
+-- of `find_ts_16` and `find_seq_16`
 pub one-ts-16 : (table : SequenceTracker) (seqs : List ℕ) (secs : List ℤ) (s : TsSheet) (opt : FindOption) (r₁ r₂ : TsSheetBack)
     → FindsTs16 table seqs secs s opt r₁ → FindsTs16 table seqs secs s opt r₂ → r₁ ≡ r₂
-one-ts-16 table seqs secs s opt r₁ r₂ f g =
-    let back = one-back _ _ _ (sheetRule table seqs secs (s .used)) (tsSheet s) (tsSheet (r₁ .sheet)) (tsSheet (r₂ .sheet)) (f .1) (g .1) in
-    rw (one-asked (r₁ .asked) (r₂ .asked) (f .0 ∙ sym (g .0)), ts-parts (r₁ .sheet) (r₂ .sheet) back)
+one-ts-16 table seqs secs s opt r₁ r₂ f g = rw (one-asked (r₁ .asked) (r₂ .asked) (f .0 ∙ sym (g .0)), one-ts-back table seqs secs s opt (r₁ .sheet) (r₂ .sheet) (f .1) (g .1))
 
 pub one-seq-16 : (table : SequenceTracker) (seqs : List ℕ) (secs : List ℤ) (s : SeqSheet) (opt : FindOption) (r₁ r₂ : SeqSheetBack)
     → FindsSeq16 table seqs secs s opt r₁ → FindsSeq16 table seqs secs s opt r₂ → r₁ ≡ r₂
-one-seq-16 table seqs secs s opt r₁ r₂ f g =
-    let back = one-back _ _ _ (sheetRule table seqs secs (s .used)) (seqSheet s) (seqSheet (r₁ .sheet)) (seqSheet (r₂ .sheet)) (f .1) (g .1) in
-    rw (one-asked (r₁ .asked) (r₂ .asked) (f .0 ∙ sym (g .0)), seq-parts (r₁ .sheet) (r₂ .sheet) back)
+one-seq-16 table seqs secs s opt r₁ r₂ f g = rw (one-asked (r₁ .asked) (r₂ .asked) (f .0 ∙ sym (g .0)), one-seq-back table seqs secs s opt (r₁ .sheet) (r₂ .sheet) (f .1) (g .1))
