@@ -2,7 +2,11 @@
 use lookup::FindOption;
 use lookup::FoundSeq;
 use lookup::FoundTs;
+use questions::SeqAnswer;
+use questions::TsAnswer;
 use saving::Saved;
+use sheets::SeqSheet;
+use sheets::TsSheet;
 use tracker::LastRecorded;
 use tracker::Second;
 use tracker::Seq;
@@ -72,13 +76,96 @@ fn partner_so(b: &[u8], v: u64) -> bool {
     }
 }
 
+fn wide(mark: u8) -> u64 {
+    mark as u64
+}
+
+// How an answer to one of many questions stands: a mark of 1 and the partner, or 0 and 0 where there is none.
+fn answer_so(b: &[u8], mark: u64, v: u64) -> bool {
+    if mark == 1 {
+        return partner_so(b, v);
+    }
+    (mark == 0) & (v == 0) & (u8_at(b, 9) == 0)
+}
+
+// The last answer of a sheet that has the question in all its places.
+fn second_by_sheet(
+    table: SequenceTracker,
+    seqs: &[u64],
+    secs: &[i64],
+    key: u64,
+    way: FindOption,
+) -> TsAnswer {
+    let sheet = TsSheet {
+        keys: [Seq(key); 16],
+        answers: [TsAnswer {
+            found: 7,
+            second: Second(7),
+        }; 16],
+        used: 16,
+    };
+    let back = sheets::find_ts_16(table, seqs, secs, sheet, way);
+    let filled = back.sheet;
+    filled.answers[15]
+}
+
+fn seq_by_sheet(
+    table: SequenceTracker,
+    seqs: &[u64],
+    secs: &[i64],
+    key: i64,
+    way: FindOption,
+) -> SeqAnswer {
+    let sheet = SeqSheet {
+        keys: [Second(key); 16],
+        answers: [SeqAnswer {
+            found: 7,
+            seq: Seq(7),
+        }; 16],
+        used: 16,
+    };
+    let back = sheets::find_seq_16(table, seqs, secs, sheet, way);
+    let filled = back.sheet;
+    filled.answers[15]
+}
+
+// Whether a sheet and a list of the question are answered so, by sequence.
+fn second_of_many_so(b: &[u8], table: SequenceTracker, seqs: &[u64], secs: &[i64]) -> bool {
+    let way = way_of(u8_at(b, 8));
+    let key = u64_at(b, 0);
+    let by_sheet = second_by_sheet(table, seqs, secs, key, way);
+    let second = by_sheet.second;
+    let x = second.0;
+    let keys = [key; 1];
+    let mut answers = [7i64; 1];
+    let mut found = [7u8; 1];
+    question_lists::find_ts_each(table, seqs, secs, &keys, &mut answers, &mut found, way);
+    let y = answers[0];
+    answer_so(b, by_sheet.found, signed::as_unsigned(x))
+        & answer_so(b, wide(found[0]), signed::as_unsigned(y))
+}
+
+// The same by second.
+fn seq_of_many_so(b: &[u8], table: SequenceTracker, seqs: &[u64], secs: &[i64]) -> bool {
+    let way = way_of(u8_at(b, 8));
+    let key = i64_at(b, 0);
+    let by_sheet = seq_by_sheet(table, seqs, secs, key, way);
+    let seq = by_sheet.seq;
+    let keys = [key; 1];
+    let mut answers = [7u64; 1];
+    let mut found = [7u8; 1];
+    question_lists::find_seq_each(table, seqs, secs, &keys, &mut answers, &mut found, way);
+    answer_so(b, by_sheet.found, seq.0) & answer_so(b, wide(found[0]), answers[0])
+}
+
+// Asked alone, on a sheet and in a list.
 pub fn second_so(b: &[u8], table: SequenceTracker, seqs: &[u64], secs: &[i64]) -> bool {
     match lookup::find_ts(table, seqs, secs, Seq(u64_at(b, 0)), way_of(u8_at(b, 8))) {
         FoundTs::At(s) => {
             let x = s.0;
-            partner_so(b, signed::as_unsigned(x))
+            partner_so(b, signed::as_unsigned(x)) & second_of_many_so(b, table, seqs, secs)
         }
-        FoundTs::Nothing => u8_at(b, 9) == 0,
+        FoundTs::Nothing => (u8_at(b, 9) == 0) & second_of_many_so(b, table, seqs, secs),
         FoundTs::Refused(_) => false,
     }
 }
@@ -87,9 +174,9 @@ pub fn seq_so(b: &[u8], table: SequenceTracker, seqs: &[u64], secs: &[i64]) -> b
     match lookup::find_seq(table, seqs, secs, Second(i64_at(b, 0)), way_of(u8_at(b, 8))) {
         FoundSeq::At(s) => {
             let x = s.0;
-            partner_so(b, x)
+            partner_so(b, x) & seq_of_many_so(b, table, seqs, secs)
         }
-        FoundSeq::Nothing => u8_at(b, 9) == 0,
+        FoundSeq::Nothing => (u8_at(b, 9) == 0) & seq_of_many_so(b, table, seqs, secs),
         FoundSeq::Refused(_) => false,
     }
 }
