@@ -1,65 +1,24 @@
-use Prim.Native.Nat.{_-_}
-use native.Mathlib.Omega.{arith}
-use borrow.Author.Tests.{lt-ltb, le-ltb}
-use lib.Dec.{ltb}
-use Rattle.order.proofs.Order.{nat-order}
-use Rattle.search.proofs.Bound.{Bracket, start, up, down, finish}
+use borrow.Author.Needs.{needs}
 use Rattle.search.proofs.inner.seqs.first_not_below.Statement.{statement}
 use Rattle.search.proofs.inner.seqs.first_not_below.Tie as tie
 
-abbrev Inv-loop : tie.InvT-loop
-Inv-loop seqs n x lo₀ hi₀ lo hi = Bracket ltb 0 seqs x n lo hi
+by-halves-requires : tie.Need-by-halves-requires
+by-halves-requires c κs = search needs
 
-abbrev μ-loop : tie.MeasureT-loop
-μ-loop seqs n x lo₀ hi₀ lo hi = hi - lo
+returns : tie.Need-returns
+returns c = c .by-halves .ensures
 
-loop-holds : tie.Need-loop-holds Inv-loop μ-loop
-loop-holds c = start _ _ _ _ _
+by-halves-requires-2 : tie.Need-by-halves-requires-2
+by-halves-requires-2 c κs = search needs
 
-sub-mid : tie.Need-sub-mid Inv-loop μ-loop
-sub-mid c = omega arith
+returns-2 : tie.Need-returns-2
+returns-2 c = c .by-halves2 .ensures
 
-add-mid : tie.Need-add-mid Inv-loop μ-loop
-add-mid c = omega arith
+by-known-halves-requires : tie.Need-by-known-halves-requires
+by-known-halves-requires c κs = search needs
 
-mul-if1 : tie.Need-mul-if1 Inv-loop μ-loop
-mul-if1 c = omega arith
-
-shared-slice-read-if1 : tie.Need-shared-slice-read-if1 Inv-loop μ-loop
-shared-slice-read-if1 c = omega arith
-
-add-lo : tie.Need-add-lo Inv-loop μ-loop
-add-lo c = omega arith
-
-loop-less : tie.Need-loop-less Inv-loop μ-loop
-loop-less c = omega arith
-
-loop-again : tie.Need-loop-again Inv-loop μ-loop
-loop-again c = up _ _ _ _ _ _ _ (c .before .before .before .loop .inv) nat-order (c .before .before .before .before .pre .1) _ (omega arith) (omega arith) (lt-ltb _ _ (c .if1 .taken))
-
-loop-less-2 : tie.Need-loop-less-2 Inv-loop μ-loop
-loop-less-2 c = omega arith
-
-loop-again-2 : tie.Need-loop-again-2 Inv-loop μ-loop
-loop-again-2 c = down _ _ _ _ _ _ _ (c .before .before .before .loop .inv) nat-order (c .before .before .before .before .pre .1) _ (omega arith) (omega arith) (le-ltb _ _ (c .if1 .left))
-
-returns : tie.Need-returns Inv-loop μ-loop
-returns c = finish _ _ _ _ _ _ _ (c .before .loop .inv) (c .loop-test .left)
+returns-3 : tie.Need-returns-3
+returns-3 c = c .by-known-halves .ensures
 
 pub first-not-below-spec : {M : Type 1} → statement M
-first-not-below-spec =
-    tie.close
-    (tie.spec
-    Inv-loop
-    μ-loop
-    loop-holds
-    sub-mid
-    add-mid
-    mul-if1
-    shared-slice-read-if1
-    add-lo
-    loop-less
-    loop-again
-    loop-less-2
-    loop-again-2
-    returns)
+first-not-below-spec = tie.close (tie.spec by-halves-requires returns by-halves-requires-2 returns-2 by-known-halves-requires returns-3)
