@@ -88,6 +88,16 @@ def searched(found, name):
     return name.replace("1,000 lookups", "the search alone"), {"rust": row["rust"], "ours": row["ours"] - check}
 
 
+def sheets(found):
+    """Instructions a question of sheets of sixteen, of the same questions one by one, and of the Rust."""
+    lines = ["| Data, pairs | Rust | `skut_find_ts` | `skut_find_ts_16` | A sheet / one by one | A sheet / Rust |", "|---|---|---|---|---|---|"]
+    for n in (1, 512, 8192):
+        sheet, one = found[f"1,600 questions in sheets, mixed, {n}"], found[f"1,600 questions one by one, mixed, {n}"]["ours"]
+        each = " | ".join(f"{count / 1600:,.1f}" for count in (sheet["rust"], one, sheet["ours"]))
+        lines.append(f"| mixed, {n} | {each} | {ratio({'rust': one, 'ours': sheet['ours']})} | {ratio(sheet)} |")
+    return "\n".join(lines) + "\n"
+
+
 def growth(found):
     """Instructions a pair, from 512 to 8,192 pairs."""
     lines = ["| Work, data | 512 | 2,048 | 8,192 |", "|---|---|---|---|"]
@@ -109,7 +119,7 @@ def page(found, times, digest):
     return "\n".join([
         HEAD.format(times=taken_on(), digest=digest),
         "## Images of 8,192 pairs\n",
-        table("Work, data, pairs", rows(lambda n: n.endswith(", 8192") and "1,000" not in n), times),
+        table("Work, data, pairs", rows(lambda n: n.endswith(", 8192") and "1,000" not in n and "questions" not in n), times),
         "## Lists of offers\n",
         "Capacity 8,192. The Rust takes a `DateTime`: made from the seconds, as its own `extend_from` does, or ready before the count begins.\n",
         table("Work", rows(lambda n: "offers" in n), times),
@@ -118,6 +128,14 @@ def page(found, times, digest):
         f"The check takes {check:.1f} instructions a kept pair. The search alone is what 1,000 lookups take beyond 1,000 calls of `skut_check` on the same table; it is counted only. "
         "All are by sequence; they round down, those marked up round up. Equal: all pairs are equal, and their sequence is asked for, so that every answer is the same.\n",
         table("Work, data, pairs", rows(lambda n: "lookups" in n) + searches, times),
+        "## Many questions\n",
+        "A call on many questions checks the table once. A sheet has up to sixteen (`skut_find_ts_16`). Here 100 full ones, made before the count begins, ask by sequence and round down. "
+        "The columns: the instructions a question takes of the Rust, of ours asked one by one, and of ours in a sheet, with a sixteenth of the check and of passing the sheet there and back; then the third as a part of the second, and of the first.\n",
+        sheets(found),
+        "A list has any number (`skut_find_ts_each`, `skut_find_seq_each`): here 100,000 in one call, on mixed data of 8,192 pairs. The columns: all instructions of the Rust's loop of lookups, and of our call with its check; ours as a part of the Rust's, which is also that of one question; and the same of the times. "
+        "Rising: the keys go evenly from the table's first to its last; random: the same keys in random order; nothing found: keys below the first, rounding down, or above the last, rounding up. "
+        "The Rust's loop stores its answers, as ours does; to add them up takes it no fewer. By second it takes a `DateTime`: made from the seconds in the loop, or ready before the count begins. By sequence it makes one of each second found, and none where nothing is.\n",
+        table("Work", rows(lambda n: n.startswith("100,000 questions")), times),
         "## Dates\n",
         "Beside chrono: `to_rfc3339_opts` of a `DateTime` made from the second, which makes a `String`, and `parse_from_rfc3339`. Ours writes into twenty bytes. "
         "The seconds are those of mixed data, all in one November, or go evenly through the years 0001 to 9999; ours passes the months before a date's one by one.\n",

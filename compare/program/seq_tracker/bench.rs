@@ -5,7 +5,7 @@ use super::super::*;
 use super::chance::{Chance, FIRST_SECOND, LAST_SECOND};
 use super::lent::{self, Lent};
 use super::offers::table_of;
-use super::ours::{self, Table};
+use super::ours::{self, Answer, Table, TsSheet, OK};
 use super::theirs;
 use chrono::SecondsFormat;
 use std::hint::black_box;
@@ -114,6 +114,25 @@ fn rust_find<const UP: bool>(t: &SequenceTracker, seqs: &[u64]) -> i64 {
     seqs.iter().map(|&q| t.find_ts(q, option()).map_or(0, |d| d.timestamp())).fold(0, i64::wrapping_add)
 }
 
+/// The answers are stored: to add them up takes the Rust no less, and by sequence more, as a second has to be made of each `DateTime` first.
+#[inline(never)]
+fn rust_find_each<const UP: bool>(t: &SequenceTracker, seqs: &[u64], answers: &mut [Option<DateTime<Utc>>]) {
+    let option = || if UP { FindOption::RoundUp } else { FindOption::RoundDown };
+    seqs.iter().zip(answers).for_each(|(&q, answer)| *answer = t.find_ts(q, option()));
+}
+
+#[inline(never)]
+fn rust_find_seq_each<const UP: bool>(t: &SequenceTracker, at: &[DateTime<Utc>], answers: &mut [Option<u64>]) {
+    let option = || if UP { FindOption::RoundUp } else { FindOption::RoundDown };
+    at.iter().zip(answers).for_each(|(&at, answer)| *answer = t.find_seq(at, option()));
+}
+
+#[inline(never)]
+fn rust_find_seq_each_made<const UP: bool>(t: &SequenceTracker, secs: &[i64], answers: &mut [Option<u64>]) {
+    let option = || if UP { FindOption::RoundUp } else { FindOption::RoundDown };
+    secs.iter().zip(answers).for_each(|(&sec, answer)| *answer = t.find_seq(theirs::instant(sec), option()));
+}
+
 #[inline(never)]
 fn rust_write_date(sec: i64) -> String {
     theirs::instant(sec).to_rfc3339_opts(SecondsFormat::Secs, true)
@@ -171,6 +190,101 @@ fn lookups(bench: &mut Bench, data: &str, n: usize) {
     let checks = || (0..1000).map(|_| black_box(&ours).check().number).max();
     assert_eq!(checks(), Some(0));
     bench.alone(&format!("1,000 checks, {data}, {n}"), "ours", checks);
+}
+
+/// Keeps an answer from being left out, and does not copy it.
+fn used<A>(answer: &A) {
+    black_box(answer);
+}
+
+/// 100 sheets of sixteen, in rising order over the table, which are ready before the count begins. Beside them stand the same questions one by one.
+fn sheets(bench: &mut Bench, n: usize) {
+    let t = sample("mixed", n);
+    let ours = table_of(&mut Chance::new(4), &t);
+    let asked: Vec<u64> = (0..1600).map(|i| 1000 + i * 25 * n as u64 / 16).collect();
+    let sheets: Vec<TsSheet> = asked.chunks(16).map(|keys| TsSheet { keys: keys.try_into().expect("sixteen"), used: 16, ..TsSheet::default() }).collect();
+    let mut theirs = vec![None; asked.len()];
+    rust_find_each::<false>(&t, &asked, &mut theirs);
+    let found = |at: &Option<DateTime<Utc>>| at.map_or(OK, |at| Answer { a: 1, b: at.timestamp() as u64, ..OK });
+    for (sheet, beside) in sheets.iter().zip(theirs.chunks(16)) {
+        let said = ours.find_ts_16(*sheet, 1);
+        assert_eq!(said.answer, OK);
+        for (i, at) in beside.iter().enumerate() {
+            let answer = said.sheet.answers[i];
+            assert_eq!((found(at), found(at)), (Answer { a: answer.found, b: answer.second as u64, ..OK }, ours.find_ts(sheet.keys[i], 1)));
+        }
+    }
+    let name = |form: &str| format!("1,600 questions {form}, mixed, {n}");
+    bench.work(
+        &name("in sheets"),
+        || rust_find_each::<false>(black_box(&t), black_box(&asked), &mut theirs),
+        || black_box(&sheets).iter().for_each(|sheet| used(&ours.find_ts_16(*sheet, 1))),
+    );
+    let singly = || black_box(&asked).iter().for_each(|&q| used(&ours.find_ts(q, 1)));
+    bench.alone(&name("one by one"), "ours", singly);
+}
+
+/// How many questions a list has.
+const QUESTIONS: usize = 100_000;
+
+/// Keys of a list: spread evenly over the table, in rising order; the same in random order; and some beyond that end of it at which nothing is found.
+fn asked(first: i64, last: i64, up: bool) -> [(&'static str, Vec<i64>); 3] {
+    let chance = &mut Chance::new(8);
+    let all = 0..QUESTIONS as i64;
+    let rising: Vec<i64> = all.clone().map(|i| first + (last - first) * i / (QUESTIONS as i64 - 1)).collect();
+    let mut random = rising.clone();
+    (1..QUESTIONS).rev().for_each(|i| random.swap(i, chance.index(i + 1)));
+    let nothing = all.map(|i| if up { last + 1 + i } else { first - 1 - i % 1000 }).collect();
+    [("rising", rising), ("random", random), ("nothing found", nothing)]
+}
+
+/// The name of a list, and the call's number of its rounding.
+fn list_of(by: &str, up: bool, order: &str) -> (String, u32) {
+    (format!("100,000 questions by {by}, {}, {order}", if up { "up" } else { "down" }), u32::from(!up))
+}
+
+fn lists_by_sequence<const UP: bool>(bench: &mut Bench) {
+    let (t, chance) = (sample("mixed", 8192), &mut Chance::new(9));
+    let ours = table_of(chance, &t);
+    for (order, keys) in asked(t.sequence_numbers[0] as i64, t.sequence_numbers[8191] as i64, UP) {
+        let (name, round) = list_of("sequence", UP, order);
+        let keys = lent::seqs(chance, &keys.iter().map(|&k| k as u64).collect::<Vec<u64>>(), 0);
+        let (mut answers, mut found) = (lent::secs(chance, &[], QUESTIONS), lent::bytes(chance, QUESTIONS));
+        let mut theirs = vec![None; QUESTIONS];
+        rust_find_each::<UP>(&t, keys.places(), &mut theirs);
+        assert_eq!(ours.find_ts_each(&keys, &mut answers, &mut found, round), OK);
+        for (at, (&second, &mark)) in theirs.iter().zip(answers.places().iter().zip(found.places())) {
+            assert_eq!(at.map_or((0, 0), |at| (at.timestamp(), 1)), (second, mark), "{name}");
+        }
+        bench.work(
+            &name,
+            || rust_find_each::<UP>(black_box(&t), black_box(keys.places()), &mut theirs),
+            || used(&black_box(&ours).find_ts_each(&keys, &mut answers, &mut found, round)),
+        );
+    }
+}
+
+/// The Rust makes a `DateTime` of each second, or has them ready.
+fn lists_by_second<const UP: bool>(bench: &mut Bench) {
+    let (t, chance) = (sample("mixed", 8192), &mut Chance::new(9));
+    let ours = table_of(chance, &t);
+    for (order, keys) in asked(t.timestamps[0], t.timestamps[8191], UP) {
+        let (name, round) = list_of("second", UP, order);
+        let ready: Vec<DateTime<Utc>> = keys.iter().map(|&sec| theirs::instant(sec)).collect();
+        let keys = lent::secs(chance, &keys, 0);
+        let (mut answers, mut found) = (lent::seqs(chance, &[], QUESTIONS), lent::bytes(chance, QUESTIONS));
+        let mut theirs = vec![None; QUESTIONS];
+        rust_find_seq_each::<UP>(&t, &ready, &mut theirs);
+        assert_eq!(ours.find_seq_each(&keys, &mut answers, &mut found, round), OK);
+        for (seq, (&own, &mark)) in theirs.iter().zip(answers.places().iter().zip(found.places())) {
+            assert_eq!(seq.map_or((0, 0), |seq| (seq, 1)), (own, mark), "{name}");
+        }
+        let mut each = || used(&black_box(&ours).find_seq_each(&keys, &mut answers, &mut found, round));
+        let made = || rust_find_seq_each_made::<UP>(black_box(&t), black_box(keys.places()), &mut theirs);
+        bench.work(&format!("{name}, DateTimes made"), made, &mut each);
+        let taken = || rust_find_seq_each::<UP>(black_box(&t), black_box(&ready), &mut theirs);
+        bench.work(&format!("{name}, DateTimes ready"), taken, &mut each);
+    }
 }
 
 /// 100,000 offers at an interval: the second of each goes by its position. The Rust makes a `DateTime` of each second, as in its own `extend_from`, or has
@@ -234,6 +348,11 @@ pub fn main(timed: bool) {
     for (data, n) in [("mixed", 1), ("mixed", 512), ("mixed", 2048), ("mixed", 8192), ("equal", 8192)] {
         lookups(&mut bench, data, n);
     }
+    [1, 512, 8192].into_iter().for_each(|n| sheets(&mut bench, n));
+    lists_by_sequence::<false>(&mut bench);
+    lists_by_sequence::<true>(&mut bench);
+    lists_by_second::<false>(&mut bench);
+    lists_by_second::<true>(&mut bench);
     // What becomes of them, the interval, and the second at a position. Of those that go back, each that is recorded is followed by 59 below it.
     let kinds: [(&str, u64, fn(i64) -> i64); 3] = [("all recorded", 0, |i| i), ("59 of 60 too soon", 60, |i| i), ("59 of 60 went back", 60, |i| i - i % 60 * 2)];
     for (became, interval, second) in kinds {

@@ -12,6 +12,7 @@ mod lists;
 mod lookups;
 mod offers;
 mod ours;
+mod questions;
 mod readers;
 mod refusals;
 mod restores;
@@ -60,6 +61,7 @@ pub(crate) fn main(words: Vec<String>) -> i32 {
     offers::exhaustive(&mut tally);
     lists::exhaustive(&mut tally);
     lookups::exhaustive(&mut tally);
+    questions::exhaustive(&mut tally);
     halving::exhaustive(&mut tally);
     dates::exhaustive(&mut tally);
     for _ in 0..rounds {
@@ -73,12 +75,16 @@ pub(crate) fn main(words: Vec<String>) -> i32 {
         refusals::random(&mut tally, &mut chance);
         totals::random(&mut tally, &mut chance);
     }
-    // dates last, and then halving: what is random before them is the same as without them
+    // dates last, then halving, and then many questions: what is random before them is the same as without them
     for _ in 0..rounds {
         dates::random(&mut tally, &mut chance);
     }
     for _ in 0..rounds {
         halving::random(&mut tally, &mut chance);
+    }
+    for _ in 0..rounds {
+        questions::random(&mut tally, &mut chance);
+        refusals::questions(&mut tally, &mut chance);
     }
     tally.print();
     0

@@ -7,6 +7,7 @@ use super::ours::{Answer, Table, OK};
 use super::tally::Tally;
 use super::theirs;
 use std::fmt::Debug;
+use std::ops::RangeInclusive;
 
 pub const ROUNDS: [(FindOption, u32); 2] = [(FindOption::RoundUp, 0), (FindOption::RoundDown, 1)];
 
@@ -18,11 +19,11 @@ fn found(partner: Option<u64>) -> Answer {
 }
 
 /// What is counted of one kind of lookup: where no key is equal, where one is, and which of several answers.
-struct Kinds {
-    other: &'static str,
-    equal: &'static str,
-    lowest: &'static str,
-    highest: &'static str,
+pub struct Kinds {
+    pub other: &'static str,
+    pub equal: &'static str,
+    pub lowest: &'static str,
+    pub highest: &'static str,
 }
 
 const BY_SEQUENCE: Kinds = Kinds {
@@ -41,7 +42,7 @@ const BY_SECOND: Kinds = Kinds {
 
 /// The Rust's answer and ours to one question: `equal` has the partners of the equal keys, in order. Either has to be one of them, and ours the one at the
 /// lowest or at the highest position.
-fn question<K: Debug>(tally: &mut Tally, kinds: &Kinds, t: &SequenceTracker, key: K, round: u32, theirs: Option<u64>, ours: Answer, equal: &[u64]) {
+pub fn question<K: Debug>(tally: &mut Tally, kinds: &Kinds, t: &SequenceTracker, key: K, round: u32, theirs: Option<u64>, ours: Answer, equal: &[u64]) {
     let input = || format!("{key:?}, round {round}, the Rust {theirs:?}, in {}", shown(t));
     let (Some(lowest), Some(highest)) = (equal.first(), equal.last()) else {
         tally.same(kinds.other, input, &found(theirs), &ours);
@@ -55,8 +56,18 @@ fn question<K: Debug>(tally: &mut Tally, kinds: &Kinds, t: &SequenceTracker, key
     }
 }
 
+/// The seconds of the pairs with a sequence, in order.
+pub fn of_sequence(t: &SequenceTracker, seq: u64) -> Vec<u64> {
+    t.sequence_numbers.iter().zip(&t.timestamps).filter(|p| *p.0 == seq).map(|p| *p.1 as u64).collect()
+}
+
+/// The sequences of the pairs with a second, in order.
+pub fn of_second(t: &SequenceTracker, sec: i64) -> Vec<u64> {
+    t.timestamps.iter().zip(&t.sequence_numbers).filter(|p| *p.0 == sec).map(|p| *p.1).collect()
+}
+
 pub fn by_sequence(tally: &mut Tally, t: &SequenceTracker, ours: &Table, seq: u64) {
-    let equal: Vec<u64> = t.sequence_numbers.iter().zip(&t.timestamps).filter(|p| *p.0 == seq).map(|p| *p.1 as u64).collect();
+    let equal = of_sequence(t, seq);
     for (option, round) in ROUNDS {
         let theirs = t.find_ts(seq, option).map(|d| d.timestamp() as u64);
         question(tally, &BY_SEQUENCE, t, seq, round, theirs, ours.find_ts(seq, round), &equal);
@@ -64,7 +75,7 @@ pub fn by_sequence(tally: &mut Tally, t: &SequenceTracker, ours: &Table, seq: u6
 }
 
 pub fn by_second(tally: &mut Tally, t: &SequenceTracker, ours: &Table, sec: i64) {
-    let equal: Vec<u64> = t.timestamps.iter().zip(&t.sequence_numbers).filter(|p| *p.0 == sec).map(|p| *p.1).collect();
+    let equal = of_second(t, sec);
     for (option, round) in ROUNDS {
         let theirs = t.find_seq(theirs::instant(sec), option);
         question(tally, &BY_SECOND, t, sec, round, theirs, ours.find_seq(sec, round), &equal);
@@ -72,8 +83,7 @@ pub fn by_second(tally: &mut Tally, t: &SequenceTracker, ours: &Table, sec: i64)
 }
 
 /// Every table of up to 6 pairs whose sequences and seconds each stay or rise by 2 from one pair to the next, and every key from below the first to above the last.
-pub fn exhaustive(tally: &mut Tally) {
-    let chance = &mut Chance::new(6);
+pub fn every(mut each: impl FnMut(SequenceTracker, RangeInclusive<u64>, RangeInclusive<i64>)) {
     for n in 0..=6usize {
         for steps in 0..1u32 << (2 * n.saturating_sub(1)) {
             let (mut seqs, mut secs) = (vec![], vec![]);
@@ -84,12 +94,18 @@ pub fn exhaustive(tally: &mut Tally) {
                 seq += 2 * u64::from(steps >> (2 * i) & 1);
                 sec += 2 * i64::from(steps >> (2 * i + 1) & 1);
             }
-            let t = theirs::table(8, 0, &seqs, &secs);
-            let ours = table_of(chance, &t);
-            (0..=2 * n as u64 + 1).for_each(|seq| by_sequence(tally, &t, &ours, seq));
-            (-4..=2 * n as i64).for_each(|sec| by_second(tally, &t, &ours, sec));
+            each(theirs::table(8, 0, &seqs, &secs), 0..=2 * n as u64 + 1, -4..=2 * n as i64);
         }
     }
+}
+
+pub fn exhaustive(tally: &mut Tally) {
+    let chance = &mut Chance::new(6);
+    every(|t, seqs, secs| {
+        let ours = table_of(chance, &t);
+        seqs.for_each(|seq| by_sequence(tally, &t, &ours, seq));
+        secs.for_each(|sec| by_second(tally, &t, &ours, sec));
+    });
 }
 
 /// Lookups by keys about those of a table, and beyond its ends.

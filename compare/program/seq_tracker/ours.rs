@@ -7,6 +7,7 @@ mod linked;
 
 /// What the library calls a tally has another name here, where a `Tally` counts comparisons.
 pub use linked::{Answer, State, TableAnswer, Tally as Counts, Totals};
+pub use linked::{SeqAnswer, SeqSheet, SeqSheetAnswer, TsAnswer, TsSheet, TsSheetAnswer};
 
 /// Number 0, and nothing more. What tells less than an answer can is 0 in the rest of it.
 pub const OK: Answer = Answer { number: 0, a: 0, b: 0, c: 0, byte: 0, bit: 0 };
@@ -133,6 +134,28 @@ impl Table {
     pub fn find_seq(&self, sec: i64, round: u32) -> Answer {
         let ((p, n), (q, m)) = (self.seqs.of(), self.secs.of());
         unsafe { linked::skut_find_seq(self.state, p, n, q, m, sec, round) }
+    }
+
+    pub fn find_ts_16(&self, sheet: TsSheet, round: u32) -> TsSheetAnswer {
+        let ((p, n), (q, m)) = (self.seqs.of(), self.secs.of());
+        unsafe { linked::skut_find_ts_16(self.state, p, n, q, m, sheet, round) }
+    }
+
+    pub fn find_seq_16(&self, sheet: SeqSheet, round: u32) -> SeqSheetAnswer {
+        let ((p, n), (q, m)) = (self.seqs.of(), self.secs.of());
+        unsafe { linked::skut_find_seq_16(self.state, p, n, q, m, sheet, round) }
+    }
+
+    pub fn find_ts_each(&self, keys: &Lent<u64>, answers: &mut Lent<i64>, found: &mut Lent<u8>, round: u32) -> Answer {
+        let ((p, n), (q, m)) = (self.seqs.of(), self.secs.of());
+        let ((x, i), (y, j), (z, k)) = (keys.of(), answers.of_mut(), found.of_mut());
+        unsafe { linked::skut_find_ts_each(self.state, p, n, q, m, x, i, y, j, z, k, round) }
+    }
+
+    pub fn find_seq_each(&self, keys: &Lent<i64>, answers: &mut Lent<u64>, found: &mut Lent<u8>, round: u32) -> Answer {
+        let ((p, n), (q, m)) = (self.seqs.of(), self.secs.of());
+        let ((x, i), (y, j), (z, k)) = (keys.of(), answers.of_mut(), found.of_mut());
+        unsafe { linked::skut_find_seq_each(self.state, p, n, q, m, x, i, y, j, z, k, round) }
     }
 
     pub fn save(&self, strict: bool, out: &mut Lent<u8>) -> Answer {

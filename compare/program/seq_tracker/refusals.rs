@@ -4,6 +4,7 @@ use super::lent;
 use super::lists;
 use super::offers::{self, outside};
 use super::ours::{self, Answer, Table, TableAnswer, NO_OFFERS, NO_STATE, OK};
+use super::questions::{lend, sheet_of, Key, Sheet};
 use super::readers::unfit;
 use super::restores::due;
 use super::tally::Tally;
@@ -70,7 +71,11 @@ fn spoiled(chance: &mut Chance) -> Table {
     Table { state, seqs: lent::seqs(chance, &seqs, spare + less), secs: lent::secs(chance, &secs, short), due: state.totals }
 }
 
-/// Every call on a table that the rules refuse.
+fn described(t: &Table) -> String {
+    format!("{:?}, sequences {:?}, seconds {:?}", t.state, t.seqs.places(), t.secs.places())
+}
+
+/// Every call on a table that the rules refuse, but those of many questions.
 fn bad_table(tally: &mut Tally, chance: &mut Chance) {
     let mut t = spoiled(chance);
     let Some(rule) = judged(&t) else {
@@ -79,7 +84,7 @@ fn bad_table(tally: &mut Tally, chance: &mut Chance) {
     };
     let kind = ["tables refused, 11", "tables refused, 12", "tables refused, 13", "tables refused, 14"][rule.number as usize - 11];
     let before = (t.seqs.all(), t.secs.all());
-    let described = format!("{:?}, sequences {:?}, seconds {:?}", t.state, t.seqs.places(), t.secs.places());
+    let described = described(&t);
     let input = || described.clone();
     let mut out = lent::bytes(chance, 40);
     let clean = out.all();
@@ -189,6 +194,62 @@ fn too_many(tally: &mut Tally, chance: &mut Chance) {
     }
     tally.kept("encoders refused, 19", input, &before, &out.all());
     super::encoders::both(tally, chance, &seqs[1..], &secs[1..]);
+}
+
+/// A sheet that is refused, and comes back as it went in.
+fn refused_sheet<K: Key>(tally: &mut Tally, chance: &mut Chance, kind: &'static str, t: &Table, used: usize, rule: Answer) {
+    let before = Sheet { used, ..sheet_of::<K>(chance, &[]) };
+    let round = chance.below(2) as u32;
+    let input = || format!("{before:?}, round {round}, in {}", described(t));
+    let (answer, after) = K::sixteen(t, before, round);
+    tally.ruled(kind, input, &rule, &answer);
+    tally.kept(kind, input, &before, &after);
+}
+
+/// A list of questions, answers and marks of these lengths that is refused, and changes nothing.
+fn refused_list<K: Key>(tally: &mut Tally, chance: &mut Chance, kind: &'static str, t: &Table, lengths: [usize; 3], rule: Answer) {
+    let [n, m, k] = lengths;
+    let (keys, mut answers, mut found) = (lend::<K>(chance, &[], n), lend::<K::Partner>(chance, &[], m), lent::bytes(chance, k));
+    let before = (keys.all(), answers.all(), found.all());
+    let round = chance.below(2) as u32;
+    let input = || format!("{:?} with {m} answers and {k} marks, round {round}, in {}", keys.places(), described(t));
+    tally.ruled(kind, input, &rule, &K::each(t, &keys, &mut answers, &mut found, round));
+    tally.kept(kind, input, &before, &(keys.all(), answers.all(), found.all()));
+}
+
+/// More questions than a sheet has places, and three lengths that are not one: 35 and 18 come before what refuses the table, which comes then.
+fn many_questions<K: Key>(tally: &mut Tally, chance: &mut Chance, t: &Table) {
+    let rule = judged(t);
+    let above = chance.of(&[17, 18, 32, 1 << 32, 1 << 32 | 3, usize::MAX]);
+    let n = chance.index(20);
+    let m = chance.of(&[n + 1, n.saturating_sub(1), 0, 2 * n + 1]);
+    // these may be one after all, and are then not asked
+    let lengths = chance.of(&[[n, m, n], [n, n, m], [m, n, n], [n, m, m + 1], [n, m, m]]);
+    let one = lengths[0] == lengths[1] && lengths[0] == lengths[2];
+    let (sheet, list) = match rule {
+        Some(_) => ("sheets refused, 35 before 11 to 14", "lists of questions refused, 18 before 11 to 14"),
+        None => ("sheets refused, 35", "lists of questions refused, 18"),
+    };
+    refused_sheet::<K>(tally, chance, sheet, t, above, told(35, 0, 0));
+    if !one {
+        refused_list::<K>(tally, chance, list, t, lengths, told(18, 0, 0));
+    }
+    let Some(rule) = rule else { return };
+    let sheet = ["sheets refused, 11", "sheets refused, 12", "sheets refused, 13", "sheets refused, 14"];
+    let list = ["lists of questions refused, 11", "lists of questions refused, 12", "lists of questions refused, 13", "lists of questions refused, 14"];
+    let used = chance.index(17);
+    refused_sheet::<K>(tally, chance, sheet[rule.number as usize - 11], t, used, rule);
+    refused_list::<K>(tally, chance, list[rule.number as usize - 11], t, [n; 3], rule);
+}
+
+pub fn questions(tally: &mut Tally, chance: &mut Chance) {
+    for _ in 0..1000 {
+        let t = spoiled(chance);
+        let before = (t.seqs.all(), t.secs.all());
+        many_questions::<u64>(tally, chance, &t);
+        many_questions::<i64>(tally, chance, &t);
+        tally.holds("refused sheets and lists of questions, the table", || described(&t), &before, &(t.seqs.all(), t.secs.all()));
+    }
 }
 
 pub fn random(tally: &mut Tally, chance: &mut Chance) {

@@ -56,7 +56,7 @@ pub fn reload(tally: &mut Tally, chance: &mut Chance, t: &SequenceTracker, ours:
 
 /// Where a run begins, on both sides: a table of capacity 8,192, just made if it has no pairs, else restored. One that is all but full has a short interval, so that it is
 /// soon halved.
-fn begun(tally: &mut Tally, chance: &mut Chance, n: usize) -> (SequenceTracker, Table) {
+pub fn begun(tally: &mut Tally, chance: &mut Chance, n: usize) -> (SequenceTracker, Table) {
     let interval = if n < 8190 { chance.interval() } else { chance.below(100) };
     if n == 0 {
         let t = SequenceTracker::with_config(8192, interval);
