@@ -1,6 +1,6 @@
 -- What stands in an answer's place, by the position that a search gave.
 use Prim.Native.Nat.{ℕ, _≤_, _<_}
-use mathlib.Core.Path.{_≡_, refl}
+use mathlib.Core.Path.{_≡_}
 use borrow.Author.Tests.{lt-ltb, le-ltb}
 use Rattle.lookup.specs.Find.{Partner, partner, nothing, standing}
 

@@ -3,7 +3,7 @@ use mathlib.Core.Path.{_≡_, sym, _∙_, ap, subst}
 use mathlib.Core.List.{[], _∷_}
 use types.Run.{OneOf, miss}
 use denote.Enum.Declared.{tagOf}
-use Rattle.told.specs.Told.{Told, gave}
+use Rattle.told.specs.Told.{Told}
 use Rattle.questions.specs.Asked.{toldAsked, IfDone}
 use Rattle.questions.specs.declared.Asked.{Asked}
 use Rattle.questions.specs.declared.Asked.the-variants.{Done, TooMany, LengthsDiffer, Refused}

@@ -1,8 +1,6 @@
 -- No second answer fits what a call on many questions tells: the answer can be had back from it.
 use mathlib.Core.Path.{_≡_, refl}
 use mathlib.Core.Bool.{cond}
-use mathlib.Core.List.{List}
-use Prim.Native.Nat.{ℕ}
 use lib.Dec.{eqb}
 use Rattle.told.specs.Told.{Told, gave, refused}
 use Rattle.tracker.specs.declared.Refusal.{Refusal}

@@ -1,5 +1,5 @@
 -- What a call on many questions tells, and what follows from it.
-use mathlib.Core.List.{List, [], _∷_}
+use mathlib.Core.List.{[], _∷_}
 use Rattle.told.specs.Told.{Told, gave, refused}
 use Rattle.tracker.specs.Refusal.{told}
 use Rattle.questions.specs.declared.Asked.{Asked}

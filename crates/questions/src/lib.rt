@@ -20,7 +20,7 @@ pub struct SeqAnswer {
     pub seq: Seq,
 }
 
-// What a call on many questions tells. `TooMany` is of a record, `LengthsDiffer` of lists.
+// What a call on many questions tells. `TooMany` is of sheets, `LengthsDiffer` of lists.
 pub enum Asked {
     Done,
     TooMany,

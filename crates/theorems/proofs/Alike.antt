@@ -29,29 +29,26 @@ use Rattle.offers.specs.Whole.{Table, whole, checkIn, leaving}
 use Rattle.offers.specs.Offer.{recorded, wentBack, tooSoon, pairRefused}
 use Rattle.offers.proofs.Alike.{Alike, same-count, same-capacity, kept-seqs, kept-secs, same-rooms}
 use Rattle.log.specs.Rest.{logRest}
-use Rattle.theorems.specs.Alike.{KeptAlike, SameButTotals, ToldAlike, AskedAlike, AnswerAlike, Room, RestAlone}
+use Rattle.theorems.specs.Alike.{KeptAlike, SameButTotals, ToldAlike, AskedByLookups, AnswerAlike, Room, RestAlone}
 use Rattle.theorems.proofs.Logged.{kept-same, KeptUp, offer-alike, log-alike, pairs-alike, extend-alike, extend-by-alike}
 
 -- ---- many questions: where the check and the single lookups tell the same
 
-asked-alike : (w v : Table) → checkIn w ≡ checkIn v
-    → ((x : Seq) (opt : FindOption) → findTs (w .state) (w .seqs) (w .secs) x opt ≡ findTs (v .state) (v .seqs) (v .secs) x opt)
-    → ((x : Second) (opt : FindOption) → findSeq (w .state) (w .seqs) (w .secs) x opt ≡ findSeq (v .state) (v .seqs) (v .secs) x opt)
-    → (opt : FindOption) → AskedAlike w v opt
+pub asked-alike : AskedByLookups
 asked-alike w v check ts seq opt = record {
-  by-ts-sheet = λ s r. (
+  ts-sheet = λ s r. (
     sheets.ts-alike (w .state) (v .state) (w .seqs) (v .seqs) (w .secs) (v .secs) check opt (λ x. ts x opt) s r,
     sheets.ts-alike (v .state) (w .state) (v .seqs) (w .seqs) (v .secs) (w .secs) (sym check) opt (λ x. sym (ts x opt)) s r,
   );
-  by-seq-sheet = λ s r. (
+  seq-sheet = λ s r. (
     sheets.seq-alike (w .state) (v .state) (w .seqs) (v .seqs) (w .secs) (v .secs) check opt (λ x. seq x opt) s r,
     sheets.seq-alike (v .state) (w .state) (v .seqs) (w .seqs) (v .secs) (w .secs) (sym check) opt (λ x. sym (seq x opt)) s r,
   );
-  by-ts-each = λ keys a f r a′ f′. (
+  ts-each = λ keys a f r a′ f′. (
     lists.ts-alike (w .state) (v .state) (w .seqs) (v .seqs) (w .secs) (v .secs) check opt (λ x. ts x opt) keys a f r a′ f′,
     lists.ts-alike (v .state) (w .state) (v .seqs) (w .seqs) (v .secs) (w .secs) (sym check) opt (λ x. sym (ts x opt)) keys a f r a′ f′,
   );
-  by-seq-each = λ keys a f r a′ f′. (
+  seq-each = λ keys a f r a′ f′. (
     lists.seq-alike (w .state) (v .state) (w .seqs) (v .seqs) (w .secs) (v .secs) check opt (λ x. seq x opt) keys a f r a′ f′,
     lists.seq-alike (v .state) (w .state) (v .seqs) (w .seqs) (v .secs) (w .secs) (sym check) opt (λ x. sym (seq x opt)) keys a f r a′ f′,
   );

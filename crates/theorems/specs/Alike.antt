@@ -59,12 +59,19 @@ ToldAlike So rest l m = (rest (l .answer) ≡ rest (m .answer)) × So (l .table)
 
 -- each sheet and each list of questions comes to the same: what fits the statement for one table fits that for the other
 pub record AskedAlike (w v : Table) (opt : FindOption) : Type 0 where
-  pub by-ts-sheet : (s : TsSheet) (r : TsSheetBack) → FindsTs16 (w .state) (w .seqs) (w .secs) s opt r ↔ FindsTs16 (v .state) (v .seqs) (v .secs) s opt r
-  pub by-seq-sheet : (s : SeqSheet) (r : SeqSheetBack) → FindsSeq16 (w .state) (w .seqs) (w .secs) s opt r ↔ FindsSeq16 (v .state) (v .seqs) (v .secs) s opt r
-  pub by-ts-each : (keys : List ℕ) (answers : List ℤ) (found : List ℕ) (r : Asked) (answers′ : List ℤ) (found′ : List ℕ)
+  pub ts-sheet : (s : TsSheet) (r : TsSheetBack) → FindsTs16 (w .state) (w .seqs) (w .secs) s opt r ↔ FindsTs16 (v .state) (v .seqs) (v .secs) s opt r
+  pub seq-sheet : (s : SeqSheet) (r : SeqSheetBack) → FindsSeq16 (w .state) (w .seqs) (w .secs) s opt r ↔ FindsSeq16 (v .state) (v .seqs) (v .secs) s opt r
+  pub ts-each : (keys : List ℕ) (answers : List ℤ) (found : List ℕ) (r : Asked) (answers′ : List ℤ) (found′ : List ℕ)
       → FindsTsEach (w .state) (w .seqs) (w .secs) keys opt answers found r answers′ found′ ↔ FindsTsEach (v .state) (v .seqs) (v .secs) keys opt answers found r answers′ found′
-  pub by-seq-each : (keys : List ℤ) (answers : List ℕ) (found : List ℕ) (r : Asked) (answers′ : List ℕ) (found′ : List ℕ)
+  pub seq-each : (keys : List ℤ) (answers : List ℕ) (found : List ℕ) (r : Asked) (answers′ : List ℕ) (found′ : List ℕ)
       → FindsSeqEach (w .state) (w .seqs) (w .secs) keys opt answers found r answers′ found′ ↔ FindsSeqEach (v .state) (v .seqs) (v .secs) keys opt answers found r answers′ found′
+
+-- the law: two tables of which the check and the single lookups tell the same answer every sheet and every list so
+abbrev pub AskedByLookups : Type 0
+AskedByLookups = (w v : Table) → checkIn w ≡ checkIn v
+    → ((x : Seq) (opt : FindOption) → findTs (w .state) (w .seqs) (w .secs) x opt ≡ findTs (v .state) (v .seqs) (v .secs) x opt)
+    → ((x : Second) (opt : FindOption) → findSeq (w .state) (w .seqs) (w .secs) x opt ≡ findSeq (v .state) (v .seqs) (v .secs) x opt)
+    → (opt : FindOption) → AskedAlike w v opt
 
 -- two tables answer alike, where up to m more offers may come, and are so after these
 pub record AnswerAlike (So : Table → Table → Type 0) (m : ℕ) (w v : Table) : Type 0 where

@@ -1,9 +1,7 @@
 use borrow.Author.Needs.{needs}
-use borrow.Author.Tests.{eqb-true}
 use mathlib.Core.Path.{_≡_, refl, sym, _∙_, ap}
-use mathlib.Core.Bool.{false, not}
+use mathlib.Core.Bool.{false}
 use mathlib.Core.List.{[], _∷_}
-use lib.Dec.{eqb}
 use lib.ListN.{length}
 use Rattle.order.proofs.Bools.{passed}
 use Rattle.told.specs.Told.{gave}
