@@ -124,7 +124,7 @@ def page(found, times, digest):
         "Capacity 8,192. The Rust takes a `DateTime`: made from the seconds, as its own `extend_from` does, or ready before the count begins.\n",
         table("Work", rows(lambda n: "offers" in n), times),
         "## Lookups\n",
-        "The rules (docs/RULES.md) have every call check the whole table, so ours grow with the kept pairs and the Rust's do not. "
+        "The rules (docs/RULES.md) have every call check the whole table, so single lookups of ours grow with the kept pairs and the Rust's do not; many questions share one check (below). At 4,096 pairs and more the search has no loop. "
         f"The check takes {check:.1f} instructions a kept pair. The search alone is what 1,000 lookups take beyond 1,000 calls of `skut_check` on the same table; it is counted only. "
         "All are by sequence; they round down, those marked up round up. Equal: all pairs are equal, and their sequence is asked for, so that every answer is the same.\n",
         table("Work, data, pairs", rows(lambda n: "lookups" in n) + searches, times),

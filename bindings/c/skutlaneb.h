@@ -96,7 +96,7 @@ struct skut_table_answer {
 
 /* Up to sixteen questions and their answers, in one struct that is passed and returned by value: by sequence, answered by a second, and by second, answered by a
  * sequence. `used` says how many of the places are questions: the first so many. An answer has `found` 1 and what was found, or both are 0, and there is none.
- * The answers past `used` are the caller's own: they come back as they went in, whatever they hold. */
+ * Keys, `used`, and the answers past it, whatever they hold, come back as they went in. */
 struct skut_ts_answer {
     uint64_t found;
     int64_t second;
@@ -179,8 +179,8 @@ struct skut_table_answer skut_new(void);
 /* An empty table: 15. Stack: 256 bytes. */
 struct skut_table_answer skut_with_config(uint32_t capacity, uint64_t interval_secs);
 
-/* Whether a table is good: 14, 11, 12, 13, in this order. Every call below that takes a table checks this first, skut_offer_pairs and the lists of questions after 18, the sheets after 35.
- * Stack: 256 bytes. */
+/* Whether a table is good: 14, 11, 12, 13, in this order. Every call below that takes a table checks this first, skut_offer_pairs and the lists of questions after
+ * 18, the sheets after 35. Stack: 256 bytes. */
 struct skut_answer skut_check(struct skut_state state, const uint64_t *seqs, size_t seqs_len, const int64_t *secs, size_t secs_len);
 
 /* Offers a pair: 31; 16; then it may be skipped; then 17; else it is recorded. Where it is not refused, exactly one number of `tally` is 1. With 16 or 17 a state

@@ -11,6 +11,8 @@ ghost use Rattle.questions.specs.Asked.{toldAsked};
 ghost use Rattle.saving.specs.Save.{toldSave};
 ghost use Rattle.dates.specs.Refusal.{toldWritten, toldRead};
 ghost use Rattle.answers.specs.Answer.{ofCount, ofSigned, ofPiece, ofPlace, ofCheck, ofTs, ofSeq};
+use crate::SeqSheetAnswer;
+use crate::TsSheetAnswer;
 use answers::Answer;
 use answers::inner as refusals;
 use answers::inner::answer;
@@ -26,6 +28,8 @@ use lookup::FoundSeq;
 use lookup::FoundTs;
 use questions::Asked;
 use saving::Saved;
+use sheets::SeqSheetBack;
+use sheets::TsSheetBack;
 use signed::Extended;
 use signed::as_unsigned;
 use tracker::Checked;
@@ -113,6 +117,30 @@ pub fn of_asked(asked: Asked) -> Answer
         Asked::TooMany => answer(35, 0, 0, 0),
         Asked::LengthsDiffer => answer(18, 0, 0, 0),
         Asked::Refused(why) => refusals::of_table(why),
+    }
+}
+
+pub fn of_ts_sheet(back: TsSheetBack) -> TsSheetAnswer
+    ensures { λ r. ⌜ r ≡ record { answer = ofCheck (toldAsked (back .asked)); sheet = back .sheet } ⌝ }
+{
+    let asked = back.asked;
+    let answer = of_asked(asked);
+    let sheet = back.sheet;
+    TsSheetAnswer {
+        answer: answer,
+        sheet: sheet,
+    }
+}
+
+pub fn of_seq_sheet(back: SeqSheetBack) -> SeqSheetAnswer
+    ensures { λ r. ⌜ r ≡ record { answer = ofCheck (toldAsked (back .asked)); sheet = back .sheet } ⌝ }
+{
+    let asked = back.asked;
+    let answer = of_asked(asked);
+    let sheet = back.sheet;
+    SeqSheetAnswer {
+        answer: answer,
+        sheet: sheet,
     }
 }
 

@@ -25,8 +25,8 @@ use Rattle.states.specs.State.{tableOf, roundOf}
 use Rattle.states.specs.declared.State.{State}
 use Rattle.table_answers.specs.Table.{ofTable, ofOffer, ofLog}
 use Rattle.table_answers.specs.declared.TableAnswer.{TableAnswer}
-use Rattle.skutlaneb.specs.declared.TsSheetAnswer.{TsSheetAnswer}
-use Rattle.skutlaneb.specs.declared.SeqSheetAnswer.{SeqSheetAnswer}
+use Rattle.call_answers.specs.declared.TsSheetAnswer.{TsSheetAnswer}
+use Rattle.call_answers.specs.declared.SeqSheetAnswer.{SeqSheetAnswer}
 
 -- an encoder by its rule
 abbrev pub SkutEncodes : (List ℕ → List ℤ → ℕ → Told ℕ) → List ℕ → List ℤ → List ℕ → Answer → List ℕ → Type 0

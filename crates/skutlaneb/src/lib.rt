@@ -11,20 +11,3 @@ pub mod layout; // layout.rt: which layout the structs have
 pub mod question_calls; // question_calls.rt: many questions to one table
 pub mod store_calls; // store_calls.rt: a table saved and restored
 pub mod table_calls; // table_calls.rt: a table: settings, the check, offers, lookups
-
-use answers::Answer;
-use sheets::SeqSheet;
-use sheets::TsSheet;
-
-// The sheet comes back with the answers to its used questions, or, refused, as it went in.
-#[repr(C)]
-pub struct TsSheetAnswer {
-    pub answer: Answer,
-    pub sheet: TsSheet,
-}
-
-#[repr(C)]
-pub struct SeqSheetAnswer {
-    pub answer: Answer,
-    pub sheet: SeqSheet,
-}

@@ -1,8 +1,8 @@
 // Many questions to one table, which is checked once: up to sixteen in a record, any number in slices. A `round` of 0 rounds up, any other down; it is one for all.
 ghost use Rattle.skutlaneb.specs.Calls.{SkutFindsTs16, SkutFindsSeq16, SkutFindsTsEach, SkutFindsSeqEach};
-use crate::SeqSheetAnswer;
-use crate::TsSheetAnswer;
 use answers::Answer;
+use call_answers::SeqSheetAnswer;
+use call_answers::TsSheetAnswer;
 use call_answers::inner as calls;
 use sheets::SeqSheet;
 use sheets::TsSheet;
@@ -21,14 +21,7 @@ pub extern "C" fn skut_find_ts_16(
 {
     let table = states::inner::table_of(state);
     let opt = states::inner::round_of(round);
-    let back = sheets::find_ts_16(table, seqs, secs, sheet, opt);
-    let asked = back.asked;
-    let answer = calls::of_asked(asked);
-    let filled = back.sheet;
-    TsSheetAnswer {
-        answer: answer,
-        sheet: filled,
-    }
+    calls::of_ts_sheet(sheets::find_ts_16(table, seqs, secs, sheet, opt))
 }
 
 // The sequences for up to sixteen seconds.
@@ -44,14 +37,7 @@ pub extern "C" fn skut_find_seq_16(
 {
     let table = states::inner::table_of(state);
     let opt = states::inner::round_of(round);
-    let back = sheets::find_seq_16(table, seqs, secs, sheet, opt);
-    let asked = back.asked;
-    let answer = calls::of_asked(asked);
-    let filled = back.sheet;
-    SeqSheetAnswer {
-        answer: answer,
-        sheet: filled,
-    }
+    calls::of_seq_sheet(sheets::find_seq_16(table, seqs, secs, sheet, opt))
 }
 
 // The second for each sequence of a list: a mark of 1 beside it, or both 0 where nothing is answered.

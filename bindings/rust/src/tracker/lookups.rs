@@ -28,10 +28,10 @@ impl SequenceTracker {
     /// # What a lookup costs
     ///
     /// Each one checks the whole table first, some 8 instructions for each kept pair. In 8,192 pairs it takes some 230 times the instructions of slatedb's, in
-    /// 512 some 17 times; in one pair not more than slatedb's, or 4 times where slatedb finds nothing (docs/SPEED.md). What to do about it:
+    /// 512 some 17 times; in one pair as many and a seventh, or 5 times where slatedb finds nothing (docs/SPEED.md). What to do about it:
     ///
     /// - Ask many questions of one table at once: [`SequenceTracker::find_ts_16`] takes up to sixteen and [`SequenceTracker::find_ts_each`] any number. Each
-    ///   checks the table once for all of them, and answers every one as this call does.
+    ///   checks the table once for all of them, and answers every one as this call does. 100,000 in one list take a quarter to a half of slatedb's instructions.
     /// - Look up rarely: keep an answer that is asked for again, until the next offer.
     /// - Keep the table small, by a smaller capacity; but storage brings a table back with capacity 8,192.
     pub fn find_ts(&self, seq: impl Into<Seq>, opt: FindOption) -> Result<Option<Second>, Error> {
