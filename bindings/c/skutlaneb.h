@@ -213,22 +213,22 @@ struct skut_answer skut_find_ts(struct skut_state state, const uint64_t *seqs, s
 struct skut_answer skut_find_seq(struct skut_state state, const uint64_t *seqs, size_t seqs_len, const int64_t *secs, size_t secs_len, int64_t sec, uint32_t round);
 
 /* The seconds of up to sixteen sequences: 35, before all else. The table is checked once; each question is answered as skut_find_ts would answer it, with one
- * `round` for all. With 0 nothing is told in a, b, c. Stack: 1,536 bytes; until memset and memcpy are found, as in skut_restore, more by what the dynamic linker
+ * `round` for all. With 0 nothing is told in a, b, c. Stack: 1,920 bytes; until memset and memcpy are found, as in skut_restore, more by what the dynamic linker
  * takes. */
 struct skut_ts_sheet_answer skut_find_ts_16(struct skut_state state, const uint64_t *seqs, size_t seqs_len, const int64_t *secs, size_t secs_len,
                                             struct skut_ts_sheet sheet, uint32_t round);
 
-/* The sequences of up to sixteen seconds, likewise, as skut_find_seq would answer. Stack: 1,536 bytes; until memset and memcpy are found, more, too. */
+/* The sequences of up to sixteen seconds, likewise, as skut_find_seq would answer. Stack: 1,920 bytes; until memset and memcpy are found, more, too. */
 struct skut_seq_sheet_answer skut_find_seq_16(struct skut_state state, const uint64_t *seqs, size_t seqs_len, const int64_t *secs, size_t secs_len,
                                               struct skut_seq_sheet sheet, uint32_t round);
 
 /* The second of each sequence of a list, of any length: 18 where the three lengths are not one, before all else. The table is checked once; each question is
  * answered as skut_find_ts would answer it, with one `round` for all: the second in `answers` and 1 in `found` at the question's place, or 0 in both, and there is
- * none. Refused, both are as they were. With 0 nothing is told in a, b, c. Stack: 384 bytes. */
+ * none. Refused, both are as they were. With 0 nothing is told in a, b, c. Stack: 768 bytes. */
 struct skut_answer skut_find_ts_each(struct skut_state state, const uint64_t *seqs, size_t seqs_len, const int64_t *secs, size_t secs_len,
                                      const uint64_t *keys, size_t keys_len, int64_t *answers, size_t answers_len, uint8_t *found, size_t found_len, uint32_t round);
 
-/* The sequence of each second of a list, likewise, as skut_find_seq would answer. Stack: 384 bytes. */
+/* The sequence of each second of a list, likewise, as skut_find_seq would answer. Stack: 768 bytes. */
 struct skut_answer skut_find_seq_each(struct skut_state state, const uint64_t *seqs, size_t seqs_len, const int64_t *secs, size_t secs_len,
                                       const int64_t *keys, size_t keys_len, uint64_t *answers, size_t answers_len, uint8_t *found, size_t found_len, uint32_t round);
 
