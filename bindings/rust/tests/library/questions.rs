@@ -12,6 +12,7 @@ pub const CASES: &[Case] = &[
     ("a sheet is made of up to sixteen questions", made),
     ("a sheet of more than sixteen questions is refused by 35", too_many),
     ("a list is answered as its questions one by one, at any length", lists),
+    ("a list is answered as a plain search answers it, about the sizes at which the library's search changes", sizes),
     ("a list is answered to memory of the caller's, whatever that holds", into),
     ("lists of different length are refused by 18, and stay as they were", uneven),
     ("raw sheets: marks and values that nobody asks for come back bit by bit", raw_sheets),
@@ -50,6 +51,30 @@ fn keys_for(tracker: &SequenceTracker) -> (Vec<Seq>, Vec<Second>) {
         secs.push(Second(near.ts.0 + step));
     }
     (seqs, secs)
+}
+
+/// The library searches a table of 4,096 pairs and more without a loop, and a smaller one by a loop. Each third sequence number stands twice here, and so does
+/// each second; every number from below the first to above the last is asked for.
+fn sizes() {
+    for n in [4094, 4095, 4096, 4097, 6143, 6144, 8190, 8191, 8192] {
+        let pairs: Vec<TrackedSeq> = (0..n).map(|i: u64| TrackedSeq::from((10 + 2 * (i - i / 3), i as i64 / 2 * 3 - 6000))).collect();
+        let mut tracker = table(8192, 0, &[]);
+        tracker.insert_all(&pairs).unwrap();
+        assert_eq!(tracker.pairs().collect::<Vec<_>>(), pairs);
+        let seqs: Vec<Seq> = (8..2 * n + 12).chain([0, u64::MAX]).map(Seq).collect();
+        let secs: Vec<Second> = (-6003..3 * n as i64 / 2 - 5990).chain([i64::MIN, i64::MAX]).map(Second).collect();
+        for opt in [RoundUp, RoundDown] {
+            // How many pairs are below the one asked for, and how many are not above it.
+            let at = |below: usize, not_above: usize| match opt {
+                RoundUp => pairs.get(below),
+                RoundDown => not_above.checked_sub(1).map(|last| &pairs[last]),
+            };
+            let by_seq = seqs.iter().map(|q| at(pairs.partition_point(|p| p.seq < *q), pairs.partition_point(|p| p.seq <= *q)).map(|p| p.ts));
+            assert_eq!(tracker.find_ts_each(&seqs, opt).unwrap(), by_seq.collect::<Vec<_>>());
+            let by_second = secs.iter().map(|s| at(pairs.partition_point(|p| p.ts < *s), pairs.partition_point(|p| p.ts <= *s)).map(|p| p.seq));
+            assert_eq!(tracker.find_seq_each(&secs, opt).unwrap(), by_second.collect::<Vec<_>>());
+        }
+    }
 }
 
 /// What each key is answered by itself.
