@@ -1,10 +1,10 @@
 -- The answers of a list, filled from its first question on.
 use Prim.Native.Nat.{ℕ, _+_, _≤_, _<_}
 use native.Mathlib.Omega.{arith}
-use mathlib.Core.Path.{_≡_, refl, sym, _∙_, ap}
-use mathlib.Core.Bool.{Bool, true, false, not, Bool·not-not}
+use mathlib.Core.Path.{_≡_, refl, _∙_}
+use mathlib.Core.Bool.{false, not}
 use mathlib.Core.List.{List}
-use borrow.Author.Tests.{eqb-true}
+use borrow.Author.Tests.{eqb-true, not-false}
 use lib.Dec.{eqb}
 use lib.IntN.{ℤ}
 use lib.ListN.{length, length-set, getD, set}
@@ -64,10 +64,7 @@ seqMake mark x = record { found = mark; seq = record { 0 = x } }
 pub as-long : (keys answers found : ℕ) → differ keys answers found ≡ false → (keys ≡ answers) × (keys ≡ found)
 as-long keys answers found h =
     let both = neither (not (eqb keys answers)) (not (eqb keys found)) h in
-    (eqb-true _ _ (un-not (eqb keys answers) (both .0)), eqb-true _ _ (un-not (eqb keys found) (both .1)))
-  where
-    un-not : (b : Bool) → not b ≡ false → b ≡ true
-    un-not b e = sym (Bool·not-not b) ∙ ap not e
+    (eqb-true _ _ (not-false (eqb keys answers) (both .0)), eqb-true _ _ (not-false (eqb keys found) (both .1)))
 
 -- a mark is 0 or 1
 pub ts-mark : (r : TsAnswer) (p : Partner Second) → r ≡ tsStands p → r .found ≤ 1

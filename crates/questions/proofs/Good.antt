@@ -17,13 +17,7 @@ module _ (table : SequenceTracker) (seqs : List ℕ) (secs : List ℤ) (good : c
   pub good-pairs : GoodPairs seqs secs (table .count)
   good-pairs =
       let ok = fine table seqs secs good in
-      record {
-        seqs-there = count-seqs table seqs secs (ok .state);
-        secs-there = count-secs table seqs secs (ok .state);
-        seqs-rise = ok .pairs .seqs-rise;
-        secs-rise = ok .pairs .secs-rise;
-        inside = ok .pairs .inside;
-      }
+      ((count-seqs table seqs secs (ok .state), ok .pairs .seqs-rise), (count-secs table seqs secs (ok .state), ok .pairs .secs-rise, ok .pairs .inside))
 
   pub gives-ts : (opt : FindOption) (key : Seq) → gave (tsPartner seqs secs (table .count) key opt) ≡ findTs table seqs secs key opt
   gives-ts opt key = rw good

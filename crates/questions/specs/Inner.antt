@@ -1,24 +1,18 @@
 -- What our own functions promise each other. No public statement cites this file.
-use Prim.Native.Nat.{ℕ, _≤_}
+use Prim.Native.Nat.{ℕ}
 use mathlib.Core.List.{List}
 use lib.Dec.{ltb}
 use lib.IntN.{ℤ, pos}
-use lib.ListN.{length}
 use lib.Signed.{ltZ}
-use Rattle.order.specs.Order.{drops, secOutside}
-use Rattle.order.specs.Inner.{NoneBelow}
+use Rattle.search.specs.Inner.{InOrder, GoodSecs}
 use Rattle.tracker.specs.declared.Seq.{Seq}
 use Rattle.tracker.specs.declared.Second.{Second}
 use Rattle.lookup.specs.Find.{Partner, standing, place, secondAt, seqAt}
 use Rattle.lookup.specs.declared.FindOption.{FindOption}
 
 -- the first n pairs are there, in order and in the domain
-pub record GoodPairs (seqs : List ℕ) (secs : List ℤ) (n : ℕ) : Type 0 where
-  pub seqs-there : n ≤ length seqs
-  pub secs-there : n ≤ length secs
-  pub seqs-rise : NoneBelow (drops ltb 0 seqs) n
-  pub secs-rise : NoneBelow (drops ltZ (pos 0) secs) n
-  pub inside : NoneBelow (secOutside secs) n
+abbrev pub GoodPairs : List ℕ → List ℤ → ℕ → Type 0
+GoodPairs seqs secs n = InOrder ltb 0 seqs n × GoodSecs secs n
 
 -- what a lookup gives in a good table of n pairs
 abbrev pub tsPartner : List ℕ → List ℤ → ℕ → Seq → FindOption → Partner Second

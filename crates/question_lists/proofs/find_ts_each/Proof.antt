@@ -41,7 +41,8 @@ passes c =
 answers-requires : tie.Need-answers-requires
 answers-requires c κs =
     let told = c .before .before in
-    (good-pairs (told .before .before .before .before .before .before .before .args .table) _ _ (passes told .1), as-long _ _ _ (passes told .0))
+    let a = told .before .before .before .before .before .before .before .args in
+    (good-pairs (a .table) (a .seqs .now) (a .secs .now) (passes told .1), as-long _ _ _ (passes told .0))
 
 same-length : tie.Need-same-length
 same-length c = search needs

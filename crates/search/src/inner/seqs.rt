@@ -76,8 +76,8 @@ pub fn first_not_below(seqs: &[u64], n: usize, x: u64) -> usize
     by_known_halves(seqs, n, x)
 }
 
-// The position of the first sequence above x, or n. None is above the greatest number; above any other is what is not below the next, so that one loop serves
-// both ways.
+// The position of the first sequence above x, or n. None is above the greatest number; above any other is what is not below the next, so that one search
+// serves both ways.
 fn first_above(seqs: &[u64], n: usize, x: u64) -> usize
     requires { ⌜ InOrder ltb 0 (now seqs) n ⌝ }
     ensures { λ r. ⌜ r ≡ firstAbove ltb 0 (now (seqs .entry)) n x ⌝ }
