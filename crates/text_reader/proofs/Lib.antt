@@ -1,5 +1,5 @@
 -- Laws that belong to no one function.
 pub mod At
 pub mod Readers
-mod Words
+pub mod Words
 mod Numbers

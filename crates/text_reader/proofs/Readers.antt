@@ -1,5 +1,5 @@
 -- One reader after another, and one in place of another. Assumes nothing.
-use mathlib.Core.Path.{_≡_, refl, ap}
+use mathlib.Core.Path.{_≡_, ap}
 use mathlib.Core.List.{List}
 use Prim.Native.Nat.{ℕ}
 use Rattle.gorilla.specs.Parser.{Read, read, refused, Reader, andThen}
@@ -10,11 +10,6 @@ then-read f e = ap (λ m. andThen m f) e
 
 pub then-refused : {A B : Type 0} {m : Read A} (f : A → Reader B) {l : List ℕ} → m ≡ refused l → andThen m f ≡ refused l
 then-refused f e = ap (λ m. andThen m f) e
-
--- of three, the first two taken together
-pub then-then : {A B C : Type 0} (m : Read A) (f : A → Reader B) (g : B → Reader C) → andThen (andThen m f) g ≡ andThen m (λ x s. andThen (f x s) g)
-then-then (read x s) f g = refl
-then-then (refused l) f g = refl
 
 pub or-read : {A : Type 0} {m : Read A} (other : Read A) {x : A} {s : List ℕ} → m ≡ read x s → firstOf m other ≡ read x s
 or-read other e = ap (λ m. firstOf m other) e

@@ -1,14 +1,14 @@
 -- Words at places of a text. Assumes nothing.
 use mathlib.Core.Path.{_≡_, refl, ap, _∙_, sym, subst}
-use mathlib.Core.Bool.{Bool, true, false, or-self}
-use mathlib.Core.List.{List, [], _∷_}
+use mathlib.Core.Bool.{Bool, true, false, cond, or-self}
+use mathlib.Core.List.{List, [], _∷_, _++_}
 use Prim.Native.Nat.{ℕ, _+_, _≤_, _<_}
 use native.Mathlib.Numerals.{add-one}
 use native.Mathlib.Omega.{arith}
 use lib.Dec.{T, eqb}
 use lib.ListN.{length, drop, getD, drop-of-length-le}
 use lib.Seq.{drop-cons}
-use Rattle.gorilla.specs.Parser.{read, refused}
+use Rattle.gorilla.specs.Parser.{Read, read, refused, Reader, andThen}
 use Rattle.text_reader.specs.Words.{word}
 use Rattle.text_reader.specs.Inner.{Has, Lacks, oneOf, ByteAt, WordAt}
 
@@ -22,7 +22,19 @@ module _ (l w : List ℕ) (a : ℕ) where
   word-lacks [] h = refl
   word-lacks (x ∷ t) h = rw (sym (or-self (eqb x a)) ∙ h)
 
--- the bytes w from `at` on, i of which were found
+-- ---- words one after the other, and a word where it stands
+two-more : {A : Type 0} (b : Bool) (l : List ℕ) (m n : Read (Unit {0})) (f g : Unit {0} → Reader A) → andThen m f ≡ andThen n g
+    → andThen (cond b m (refused l)) f ≡ andThen (cond b n (refused l)) g
+two-more true l m n f g e = e
+two-more false l m n f g e = refl
+
+pub two-words : {A : Type 0} (l v w s : List ℕ) (k : Reader A) → andThen (word l v s) (λ _ t. andThen (word l w t) (λ _. k)) ≡ andThen (word l (v ++ w) s) (λ _. k)
+unfolding word
+two-words l [] w s k = refl
+two-words l (a ∷ v) w [] k = refl
+two-words l (a ∷ v) w (x ∷ s) k = two-more (eqb x a) l (word l v s) (word l (v ++ w) s) (λ _ t. andThen (word l w t) (λ _. k)) (λ _. k) (two-words l v w s k)
+
+-- ---- the bytes w from `at` on, i of which were found
 pub record Matched (s : List ℕ) (at : ℕ) (w : List ℕ) (i : ℕ) : Type 0 where
   pub most : i ≤ length w
   pub inside : at + i ≤ length s
