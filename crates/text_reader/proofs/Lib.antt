@@ -2,4 +2,4 @@
 pub mod At
 pub mod Readers
 pub mod Words
-mod Numbers
+pub mod Numbers

@@ -52,18 +52,18 @@ module _ (a : Digits) (d : ℕ) where
     }
 
 -- ---- what is read where a digit stands, or none
-more-there : (t rest : List ℕ) (d n : ℕ) → d ≤ 9 → t ≡ (48 + d) ∷ rest → moreOf n t ≡ moreOf (n * 10 + d) rest
+pub more-there : (t rest : List ℕ) (d n : ℕ) → d ≤ 9 → t ≡ (48 + d) ∷ rest → moreOf n t ≡ moreOf (n * 10 + d) rest
 unfolding moreOf
 more-there t rest d n h e =
     let f : 48 + d - 48 ≡ d = omega arith in
     rw e (rw (is-digit (48 + d) (omega arith) (omega arith)) (ap (λ (x : ℕ). moreOf (n * 10 + x) rest) f))
 
-more-lacks : (t : List ℕ) (n : ℕ) → Lacks isDigit t → moreOf n t ≡ read n t
+pub more-lacks : (t : List ℕ) (n : ℕ) → Lacks isDigit t → moreOf n t ≡ read n t
 unfolding moreOf
 more-lacks [] n h = refl
 more-lacks (x ∷ t) n h = rw h
 
-some-there : (t rest : List ℕ) (d : ℕ) → d ≤ 9 → t ≡ (48 + d) ∷ rest → (l : List ℕ) → digits l t ≡ moreOf 0 t
+pub some-there : (t rest : List ℕ) (d : ℕ) → d ≤ 9 → t ≡ (48 + d) ∷ rest → (l : List ℕ) → digits l t ≡ moreOf 0 t
 unfolding digits
 some-there t rest d h e l = rw e (rw (is-digit (48 + d) (omega arith) (omega arith)))
 
