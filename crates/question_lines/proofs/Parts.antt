@@ -1,6 +1,6 @@
 -- The parts of a line at places of the bytes: what the grammar's readers say for what was found there. Assumes nothing.
 use mathlib.Core.Path.{_≡_, refl, ap, _∙_, sym, subst}
-use mathlib.Core.Bool.{Bool, true, false}
+use mathlib.Core.Bool.{true, false}
 use mathlib.Core.List.{List, [], _∷_}
 use Prim.Native.Nat.{ℕ, zero, suc, _+_, _-_, _^_, _≤_, _<_}
 use native.Mathlib.Omega.{arith}
@@ -10,12 +10,12 @@ use lib.IntN.{ℤ, pos, negsuc, negℤ}
 use mir.Syntax.{w64}
 use mir.Val.{SFits, toZ}
 use mir.Facts.{toZ-pos}
-use lib.ListN.{length, drop}
+use lib.ListN.{drop}
 use Rattle.tracker.specs.declared.Seq.{Seq}
 use Rattle.tracker.specs.declared.Second.{Second}
 use Rattle.lookup.specs.declared.FindOption.{FindOption}
 use Rattle.lookup.specs.declared.FindOption.the-variants.{RoundUp, RoundDown}
-use Rattle.gorilla.specs.Parser.{Read, read, refused, andThen, require, give}
+use Rattle.gorilla.specs.Parser.{Read, read, andThen, require, give}
 use Rattle.text_reader.specs.declared.Digits.{Digits}
 use Rattle.text_reader.specs.Inner.{WordAt, DigitsAt}
 use Rattle.text_reader.proofs.Readers.{then-read, then-refused, or-read, or-refused}
@@ -30,7 +30,7 @@ use Rattle.question_lines.specs.declared.steps.SecondRead.{SecondRead}
 use Rattle.question_lines.specs.declared.steps.SecondRead.the-variants as sec
 use Rattle.question_lines.specs.declared.steps.Ending.{Ending}
 use Rattle.question_lines.specs.declared.steps.Ending.the-variants as fin
-use Rattle.question_lines.specs.Grammar.{notTheForm, number, seqNumber, negative, notNegative, second, ending, bySeq, byTime, question}
+use Rattle.question_lines.specs.Grammar.{notTheForm, number, negative, notNegative, second, ending, bySeq, byTime, question}
 use Rattle.question_lines.specs.Line.{LineAt}
 use Rattle.question_lines.specs.Inner.{NumberAt, SecondAt, EndingAt, lineEnd, seqEnded, timeEnded}
 

@@ -16,7 +16,7 @@ use Rattle.tracker.specs.declared.Seq.{Seq}
 use Rattle.tracker.specs.declared.Second.{Second}
 use Rattle.lookup.specs.declared.FindOption.{FindOption}
 use Rattle.lookup.specs.declared.FindOption.the-variants.{RoundUp, RoundDown}
-use Rattle.gorilla.specs.Parser.{Read, read, refused}
+use Rattle.gorilla.specs.Parser.{read, refused}
 use Rattle.text_reader.specs.Digits.{isDigit, moreOf, digits}
 use Rattle.text_reader.specs.Words.{word}
 use Rattle.text_reader.specs.Inner.{Lacks}
@@ -24,7 +24,7 @@ use Rattle.text_reader.proofs.Readers.{then-read, then-refused, or-read, or-ref
 use Rattle.text_reader.proofs.Numbers.{more-there, more-lacks, some-there}
 use Rattle.question_lines.specs.declared.Question.{Question}
 use Rattle.question_lines.specs.declared.Question.the-variants.{BySeq, ByTime}
-use Rattle.question_lines.specs.Grammar.{notTheForm, number, seqNumber, negative, notNegative, second, ending, bySeq, byTime, question}
+use Rattle.question_lines.specs.Grammar.{notTheForm, number, seqNumber, notNegative, second, ending, bySeq, byTime, question}
 use Rattle.question_lines.specs.Inner.{seqEnded, timeEnded}
 use Rattle.question_lines.specs.Laws.{endingOf, lineOf, Numbered}
 

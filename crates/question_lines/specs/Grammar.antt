@@ -10,7 +10,7 @@ use Rattle.tracker.specs.declared.Seq.{Seq}
 use Rattle.tracker.specs.declared.Second.{Second}
 use Rattle.lookup.specs.declared.FindOption.{FindOption}
 use Rattle.lookup.specs.declared.FindOption.the-variants.{RoundUp, RoundDown}
-use Rattle.gorilla.specs.Parser.{Read, read, refused, Reader, andThen, _>>=_, _>>_, give, require}
+use Rattle.gorilla.specs.Parser.{Reader, _>>=_, _>>_, give, require}
 use Rattle.text_reader.specs.Digits.{digits}
 use Rattle.text_reader.specs.Words.{word, orElse}
 use Rattle.question_lines.specs.declared.Question.{Question}

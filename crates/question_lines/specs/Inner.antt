@@ -6,7 +6,7 @@ use lib.ListN.{drop}
 use Rattle.tracker.specs.declared.Seq.{Seq}
 use Rattle.tracker.specs.declared.Second.{Second}
 use Rattle.lookup.specs.declared.FindOption.{FindOption}
-use Rattle.gorilla.specs.Parser.{Read, read, refused, Reader, andThen, _>>=_, _>>_, give}
+use Rattle.gorilla.specs.Parser.{Read, refused, Reader, _>>=_, _>>_, give}
 use Rattle.question_lines.specs.declared.Question.{Question}
 use Rattle.question_lines.specs.declared.Question.the-variants.{BySeq, ByTime}
 use Rattle.question_lines.specs.declared.steps.NumberRead.{NumberRead}
