@@ -109,7 +109,10 @@ pub enum Error {
     TotalsFull,
     /// 35: a sheet has more than sixteen questions.
     TooManyQuestions,
-    /// A number that is not on the list: the library is not the one that this crate was written for.
+    /// 36: a line of the input of the program `why` is not a question. No call answers it.
+    BadQuestion,
+    /// A number that is not on the list, or the number of a [`Reason`](crate::Reason) that is none of the six or does not fit its answer: the library is not the one
+    /// that this crate was written for.
     Unlisted { number: u32 },
 }
 
@@ -146,6 +149,7 @@ impl Error {
             Error::DateOutside => 27,
             Error::TotalsFull => 31,
             Error::TooManyQuestions => 35,
+            Error::BadQuestion => 36,
             Error::Unlisted { number } => number,
         }
     }
@@ -194,6 +198,7 @@ impl Error {
             27 => Error::DateOutside,
             31 => Error::TotalsFull,
             35 => Error::TooManyQuestions,
+            36 => Error::BadQuestion,
             number => Error::Unlisted { number },
         })
     }
@@ -243,6 +248,7 @@ impl fmt::Display for Error {
             Error::DateOutside => f.write_str("the date, in UTC, is outside the years 0001 to 9999"),
             Error::TotalsFull => f.write_str("the table has counted 2^64-1 offers, and cannot count one more"),
             Error::TooManyQuestions => f.write_str("the sheet has more than sixteen questions"),
+            Error::BadQuestion => f.write_str("a line of the input is not a question"),
             Error::Unlisted { number } => {
                 write!(f, "the library answered {number}, which this crate does not know: the two are of different versions")
             }
