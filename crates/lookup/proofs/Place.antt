@@ -22,7 +22,7 @@ use Rattle.lookup.specs.Laws.{equal, inWords, NoKey, Nearest}
 use Rattle.lookup.specs.declared.FindOption.{FindOption}
 use Rattle.lookup.specs.declared.FindOption.the-variants.{RoundUp, RoundDown}
 
-un-not : (b c : Bool) → not b ≡ c → b ≡ not c
+pub un-not : (b c : Bool) → not b ≡ c → b ≡ not c
 un-not b c e = sym (Bool·not-not b) ∙ ap not e
 
 -- of three ways for a key to stand, by the tests below and above: neither is equal, and what is not equal is one of them
@@ -31,7 +31,7 @@ equal-is true g e = absurd (false≢true e)
 equal-is false true e = absurd (false≢true e)
 equal-is false false e = (refl, refl)
 
-is-smaller : (s g : Bool) → not s && not g ≡ false → g ≡ false → s ≡ true
+pub is-smaller : (s g : Bool) → not s && not g ≡ false → g ≡ false → s ≡ true
 is-smaller true g e f = refl
 is-smaller false g e f = absurd (true≢false (rw f at e))
 

@@ -11,3 +11,4 @@ pub mod layout; // layout.rt: which layout the structs have
 pub mod question_calls; // question_calls.rt: many questions to one table
 pub mod store_calls; // store_calls.rt: a table saved and restored
 pub mod table_calls; // table_calls.rt: a table: settings, the check, offers, lookups
+pub mod why_calls; // why_calls.rt: why a lookup answers as it does

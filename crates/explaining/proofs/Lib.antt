@@ -1,0 +1,6 @@
+-- Laws that belong to no one function.
+mod Parts
+mod Facts
+mod Told
+pub mod Laws
+pub mod Unique
