@@ -255,10 +255,10 @@ struct skut_answer skut_find_ts_each(struct skut_state state, const uint64_t *se
 struct skut_answer skut_find_seq_each(struct skut_state state, const uint64_t *seqs, size_t seqs_len, const int64_t *secs, size_t secs_len,
                                       const int64_t *keys, size_t keys_len, uint64_t *answers, size_t answers_len, uint8_t *found, size_t found_len, uint32_t round);
 
-/* What skut_find_ts answers to the same question, and why. Stack: 512 bytes. */
+/* What skut_find_ts answers to the same question, and why. Stack: 384 bytes. */
 struct skut_why skut_why_ts(struct skut_state state, const uint64_t *seqs, size_t seqs_len, const int64_t *secs, size_t secs_len, uint64_t seq, uint32_t round);
 
-/* What skut_find_seq answers to the same question, and why. Stack: 512 bytes. */
+/* What skut_find_seq answers to the same question, and why. Stack: 384 bytes. */
 struct skut_why skut_why_seq(struct skut_state state, const uint64_t *seqs, size_t seqs_len, const int64_t *secs, size_t secs_len, int64_t sec, uint32_t round);
 
 /* Writes the table's image, and a is its length: 21. An image of n pairs has at most 9n + 21 bytes. The bytes are those that slatedb writes, also where
