@@ -5,7 +5,8 @@ use Rattle.told.specs.Room.{roomRule}
 use Rattle.calendar.specs.declared.Date.{Date}
 use Rattle.calendar.specs.Calendar.{leap, lengthsOf, summed, daysOfYears, isDay, isTime, isDate}
 use Rattle.date_writer.specs.DateText.{textOf}
-use Rattle.date_reader.specs.Grammar.{isDigit, moreDigits, either, upTo, fraction, offset, end, dateTime}
+use Rattle.text_reader.specs.Digits.{isDigit}
+use Rattle.date_reader.specs.Grammar.{moreDigits, either, upTo, fraction, offset, end, dateTime}
 use Rattle.dates.specs.Read.{isOffset, offsetOf, judged}
 use Rattle.dates.specs.Write.{writeDate}
 use Rattle.cases.specs.DateCases.{DateCases}

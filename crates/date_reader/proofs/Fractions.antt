@@ -7,12 +7,13 @@ use native.Mathlib.Omega.{arith}
 use lib.Dec.{eqb}
 use lib.ListN.{length}
 use Rattle.gorilla.specs.Parser.{Read, read, Reader, andThen}
+use Rattle.text_reader.specs.Digits.{isDigit}
+use Rattle.text_reader.proofs.Readers.{then-read}
 use Rattle.calendar.specs.declared.Date.{Date}
 use Rattle.calendar.proofs.Moments.{and-true}
-use Rattle.date_reader.specs.Grammar.{bad, isDigit, moreDigits, either, upTo, fraction, dateTime}
+use Rattle.date_reader.specs.Grammar.{bad, moreDigits, either, upTo, fraction, dateTime}
 use Rattle.date_reader.specs.Fraction.{allDigits, otherFirst}
 use Rattle.date_reader.specs.Inner.{afterHead}
-use Rattle.date_reader.proofs.At.{then-read}
 
 -- ---- what is read of k bytes and then of X or of Y
 abbrev Same : {A : Type 0} → List ℕ → List ℕ → ℕ → Reader A → Type 0

@@ -1,5 +1,5 @@
 -- Laws that belong to no one function.
-pub mod At
+mod At
 mod Parts
 pub mod Ends
 pub mod Fractions

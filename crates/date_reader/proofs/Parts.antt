@@ -1,6 +1,6 @@
 -- The parts of a date-time at places of the text. Assumes nothing.
 use mathlib.Core.Path.{_≡_, refl, ap, _∙_, sym, subst}
-use mathlib.Core.Bool.{Bool, true, false, _||_}
+use mathlib.Core.Bool.{Bool, true, false, or-self}
 use mathlib.Core.List.{List, [], _∷_}
 use Prim.Native.Nat.{ℕ, suc, _+_, _-_, _*_, _≤_, _<_}
 use native.Mathlib.Omega.{arith}
@@ -8,6 +8,10 @@ use lib.Dec.{eqb}
 use lib.ListN.{length, drop, drop-of-length-le}
 use lib.Seq.{drop-cons}
 use Rattle.gorilla.specs.Parser.{Read, read, andThen}
+use Rattle.text_reader.specs.Digits.{isDigit}
+use Rattle.text_reader.specs.Inner.{Has, Lacks, oneOf, DigitAt, ByteAt}
+use Rattle.text_reader.proofs.At.{is-digit}
+use Rattle.text_reader.proofs.Readers.{then-read}
 use Rattle.calendar.specs.declared.Date.{Date}
 use Rattle.date_reader.specs.declared.Zone.{Zone}
 use Rattle.date_reader.specs.declared.StampRead.the-variants as stamp
@@ -15,9 +19,9 @@ use Rattle.date_reader.specs.declared.steps.HeadRead.{HeadRead}
 use Rattle.date_reader.specs.declared.steps.HeadRead.the-variants as head
 use Rattle.date_reader.specs.declared.steps.ZoneRead.{ZoneRead}
 use Rattle.date_reader.specs.declared.steps.ZoneRead.the-variants as zone
-use Rattle.date_reader.specs.Grammar.{bad, isDigit, moreDigits, number, upTo, oneToNine, fraction, numOffset, offset, end, dateTime}
-use Rattle.date_reader.specs.Inner.{Has, Lacks, oneOf, DigitAt, ByteAt, NumberAt, GroupAt, ended, afterHead, HeadAt, MoreAt, FractionAt, zoned, OffsetAt, ZoneAt, toldStamp}
-use Rattle.date_reader.proofs.At.{then-read, then-bad, is-digit, digits-there, digits-lacks, group-read, group-bad}
+use Rattle.date_reader.specs.Grammar.{bad, moreDigits, number, upTo, oneToNine, fraction, numOffset, offset, end, dateTime}
+use Rattle.date_reader.specs.Inner.{NumberAt, GroupAt, ended, afterHead, HeadAt, MoreAt, FractionAt, zoned, OffsetAt, ZoneAt, toldStamp}
+use Rattle.date_reader.proofs.At.{then-bad, digits-there, digits-lacks, group-read, group-bad}
 
 -- ---- local date and time of day
 module _ (s : List ℕ) where
@@ -101,18 +105,14 @@ module _ (s : List ℕ) (at p k : ℕ) (h : Passed s at p k) where
   unfolding upTo
   passed-all l = (h .from, h .inside, let e : 8 - k ≡ 0 = omega arith in h .rest ∙ ap (λ (j : ℕ). upTo j (drop p s)) e)
 
-or-same : (b : Bool) → b || b ≡ b
-or-same true = refl
-or-same false = refl
-
 fraction-has : (l rest : List ℕ) → Has (oneOf 46 46) l rest → fraction l ≡ oneToNine rest
 unfolding fraction
-fraction-has l rest h = rw (h .1) (rw (sym (or-same (eqb (h .0) 46)) ∙ h .2))
+fraction-has l rest h = rw (h .1) (rw (sym (or-self (eqb (h .0) 46)) ∙ h .2))
 
 fraction-lacks : (l : List ℕ) → Lacks (oneOf 46 46) l → fraction l ≡ read tt l
 unfolding fraction
 fraction-lacks [] h = refl
-fraction-lacks (x ∷ l) h = rw (sym (or-same (eqb x 46)) ∙ h)
+fraction-lacks (x ∷ l) h = rw (sym (or-self (eqb x 46)) ∙ h)
 
 module _ (s : List ℕ) where
   module _ (b : ByteAt s 19 46 46 true) (d : ℕ) (a : DigitAt s 20 d) where
@@ -198,17 +198,17 @@ not-here t l rest x e h = subst (Lacks t) e h
 
 offset-plus : (l rest : List ℕ) → Lacks (oneOf 90 122) l → Has (oneOf 43 43) l rest → offset l ≡ numOffset true rest
 unfolding offset
-offset-plus l rest n h = rw (h .1) (rw (not-here (oneOf 90 122) l rest (h .0) (h .1) n, sym (or-same (eqb (h .0) 43)) ∙ h .2))
+offset-plus l rest n h = rw (h .1) (rw (not-here (oneOf 90 122) l rest (h .0) (h .1) n, sym (or-self (eqb (h .0) 43)) ∙ h .2))
 
 offset-minus : (l rest : List ℕ) → Lacks (oneOf 90 122) l → Lacks (oneOf 43 43) l → Has (oneOf 45 45) l rest → offset l ≡ numOffset false rest
 unfolding offset
 offset-minus l rest n m h =
-    rw (h .1) (rw (not-here (oneOf 90 122) l rest (h .0) (h .1) n, sym (or-same (eqb (h .0) 43)) ∙ not-here (oneOf 43 43) l rest (h .0) (h .1) m, sym (or-same (eqb (h .0) 45)) ∙ h .2))
+    rw (h .1) (rw (not-here (oneOf 90 122) l rest (h .0) (h .1) n, sym (or-self (eqb (h .0) 43)) ∙ not-here (oneOf 43 43) l rest (h .0) (h .1) m, sym (or-self (eqb (h .0) 45)) ∙ h .2))
 
 offset-none : (l : List ℕ) → Lacks (oneOf 90 122) l → Lacks (oneOf 43 43) l → Lacks (oneOf 45 45) l → offset l ≡ bad
 unfolding offset
 offset-none [] n m k = refl
-offset-none (x ∷ l) n m k = rw (n, sym (or-same (eqb x 43)) ∙ m, sym (or-same (eqb x 45)) ∙ k)
+offset-none (x ∷ l) n m k = rw (n, sym (or-self (eqb x 43)) ∙ m, sym (or-self (eqb x 45)) ∙ k)
 
 offset-Z : (l rest : List ℕ) → Has (oneOf 90 122) l rest → offset l ≡ read (record { ahead = true; hours = 0; minutes = 0 }) rest
 unfolding offset

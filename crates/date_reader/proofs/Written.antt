@@ -4,8 +4,8 @@ use mathlib.Core.List.{List, _∷_}
 use Prim.Native.Nat.{ℕ, _+_, _-_, _*_, _/_, _%_, _<_}
 use native.Mathlib.Omega.{arith}
 use Rattle.gorilla.specs.Parser.{read}
+use Rattle.text_reader.proofs.At.{is-digit}
 use Rattle.date_reader.specs.Grammar.{moreDigits, number}
-use Rattle.date_reader.proofs.At.{is-digit}
 
 -- two digits
 pub two-read : (n : ℕ) (s : List ℕ) → n < 100 → number 2 ((48 + n / 10) ∷ (48 + n % 10) ∷ s) ≡ read n s

@@ -4,7 +4,7 @@ use Prim.Native.Char.{code}
 use mathlib.Core.Bool.{Bool, true, not, _&&_}
 use mathlib.Core.List.{List, [], _∷_}
 use lib.Dec.{eqb}
-use Rattle.date_reader.specs.Grammar.{isDigit}
+use Rattle.text_reader.specs.Digits.{isDigit}
 
 -- digits alone
 unfoldable pub allDigits : List ℕ → Bool

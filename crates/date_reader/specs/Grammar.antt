@@ -1,18 +1,16 @@
 -- The grammar of a date-time, RFC 3339, section 5.6, with the limits that docs/RULES.md, "Dates", sets. What is not of it is refused with 25.
 use Prim.Native.Nat.{ℕ, zero, suc, _+_, _-_, _*_}
 use Prim.Native.Char.{code}
-use mathlib.Core.Bool.{Bool, true, false, cond, _&&_, _||_}
+use mathlib.Core.Bool.{Bool, true, false, cond, _||_}
 use mathlib.Core.List.{[], _∷_}
-use lib.Dec.{leb, eqb}
+use lib.Dec.{eqb}
 use Rattle.gorilla.specs.Parser.{Read, read, refused, Reader, _>>=_, _>>_, give}
+use Rattle.text_reader.specs.Digits.{isDigit}
 use Rattle.calendar.specs.declared.Date.{Date}
 use Rattle.date_reader.specs.declared.Zone.{Zone}
 
 abbrev pub bad : {A : Type 0} → Read A
 bad = refused (25 ∷ [])
-
-unfoldable pub isDigit : ℕ → Bool
-isDigit x = leb (code "0") x && leb x (code "9")
 
 -- k digits, which follow those of the number n
 unfoldable pub moreDigits : ℕ → ℕ → Reader ℕ

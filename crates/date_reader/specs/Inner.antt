@@ -1,10 +1,9 @@
 -- What our own functions promise each other, at places of the bytes s. No public statement cites this file.
 use Prim.Native.Nat.{ℕ, _+_, _≤_, _<_}
 use mathlib.Core.Path.{_≡_}
-use mathlib.Core.Bool.{Bool, true, false, _||_}
-use mathlib.Core.List.{List, [], _∷_}
+use mathlib.Core.Bool.{Bool}
+use mathlib.Core.List.{List, []}
 use mathlib.Core.Logic.{_⊎_}
-use lib.Dec.{eqb}
 use lib.ListN.{length, drop}
 use Rattle.gorilla.specs.Parser.{Read, read, andThen, give}
 use Rattle.calendar.specs.declared.Date.{Date}
@@ -15,30 +14,7 @@ use Rattle.date_reader.specs.declared.steps.ZoneRead.{ZoneRead}
 use Rattle.date_reader.specs.declared.steps.ZoneRead.the-variants as zone
 use Rattle.date_reader.specs.declared.StampRead.{StampRead}
 use Rattle.date_reader.specs.declared.StampRead.the-variants as stamp
-use Rattle.date_reader.specs.Grammar.{bad, isDigit, number, either, upTo, fraction, numOffset, offset, end, Stamp, dateTime}
-
--- a byte that passes the test stands first; or none does
-abbrev pub Has : (ℕ → Bool) → List ℕ → List ℕ → Type 0
-Has t l rest = (x : ℕ) × (l ≡ x ∷ rest) × (t x ≡ true)
-
-abbrev pub Lacks : (ℕ → Bool) → List ℕ → Type 0
-Lacks t [] = Unit {0}
-Lacks t (x ∷ l) = t x ≡ false
-
--- the digit at a place; above 9 where there is none
-pub record DigitAt (s : List ℕ) (at d : ℕ) : Type 0 where
-  pub inside : d ≤ 9 → at < length s
-  pub there : d ≤ 9 → drop at s ≡ (48 + d) ∷ drop (at + 1) s
-  pub missing : 9 < d → Lacks isDigit (drop at s)
-
-abbrev pub oneOf : ℕ → ℕ → ℕ → Bool
-oneOf a b x = eqb x a || eqb x b
-
--- whether one of two bytes stands at a place
-pub record ByteAt (s : List ℕ) (at a b : ℕ) (r : Bool) : Type 0 where
-  pub inside : r ≡ true → at < length s
-  pub there : r ≡ true → Has (oneOf a b) (drop at s) (drop (at + 1) s)
-  pub missing : r ≡ false → Lacks (oneOf a b) (drop at s)
+use Rattle.date_reader.specs.Grammar.{bad, number, either, upTo, fraction, numOffset, offset, end, Stamp, dateTime}
 
 -- the number of k digits from a place on; above 9999 where they are not there
 pub record NumberAt (s : List ℕ) (at k r : ℕ) : Type 0 where

@@ -1,6 +1,6 @@
 // The grammar of a date-time, RFC 3339, section 5.6 (docs/RULES.md, "Dates"), for our own crates: no public call stands here.
 pub mod inner; // inner.rt: the whole text
-mod places; // places.rt: digits and bytes at a place
+mod places; // places.rt: numbers at a place
 mod steps; // steps.rt: the parts of a date-time
 
 use calendar::Date;

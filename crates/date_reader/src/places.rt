@@ -1,25 +1,9 @@
-// Digits and bytes at a place of the text. What is not there is told by a number that no digits make.
+// Numbers at a place of the text. What is not there is told by a number that no digits make.
 ghost use Prim.Native.Nat.{_≤_};
 ghost use lib.ListN.{length};
-ghost use Rattle.date_reader.specs.Inner.{DigitAt, ByteAt, NumberAt, GroupAt};
-use raw_bits::inner::wide;
-
-// The digit at a place; 10 where there is none.
-pub fn digit_at(s: &[u8], at: usize) -> u64
-    ensures { λ r. ⌜ DigitAt (now (s .entry)) at r ⌝ }
-{
-    if s.len() <= at {
-        return 10;
-    }
-    let x = wide(s[at]);
-    if x < 48 {
-        return 10;
-    }
-    if 57 < x {
-        return 10;
-    }
-    x - 48
-}
+ghost use Rattle.date_reader.specs.Inner.{NumberAt, GroupAt};
+use text_reader::inner::digit_at;
+use text_reader::inner::is_at;
 
 // The number of k digits from a place on; 10000 where they are not there.
 pub fn number_at(s: &[u8], at: usize, k: usize) -> u64
@@ -37,17 +21,6 @@ pub fn number_at(s: &[u8], at: usize, k: usize) -> u64
         i += 1;
     }
     v
-}
-
-// Whether one of two bytes stands at a place.
-pub fn is_at(s: &[u8], at: usize, a: u8, b: u8) -> bool
-    ensures { λ r. ⌜ ByteAt (now (s .entry)) at a b r ⌝ }
-{
-    if s.len() <= at {
-        return false;
-    }
-    let x = s[at];
-    x == a || x == b
 }
 
 // The number of k digits with one of two bytes after them; 10000 where this is not there.

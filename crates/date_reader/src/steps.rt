@@ -3,11 +3,11 @@ ghost use Prim.Native.Nat.{_≤_};
 ghost use lib.ListN.{length};
 ghost use Rattle.date_reader.specs.Inner.{HeadAt, MoreAt, FractionAt, OffsetAt, ZoneAt};
 use crate::Zone;
-use crate::places::digit_at;
 use crate::places::group_at;
-use crate::places::is_at;
 use crate::places::number_at;
 use calendar::Date;
+use text_reader::inner::digit_at;
+use text_reader::inner::is_at;
 
 pub enum HeadRead {
     At(Date),

@@ -24,9 +24,9 @@ use Rattle.date_writer.specs.DateText.{textOf, Dated}
 use Rattle.date_writer.specs.Inner.{dateText, Digits}
 use Rattle.date_writer.proofs.Digits.{valid-digits}
 use Rattle.date_writer.proofs.Texts.{dated-text, one-text, dated-length, dated-order, fromMonth, fromDay, fromHour, fromMinute, fromSecond}
+use Rattle.text_reader.proofs.Readers.{then-read}
 use Rattle.date_reader.specs.declared.Zone.{Zone}
 use Rattle.date_reader.specs.Grammar.{either, fraction, offset, end, Stamp, dateTime}
-use Rattle.date_reader.proofs.At.{then-read}
 use Rattle.date_reader.proofs.Ends.{whole}
 use Rattle.date_reader.proofs.Fractions.{left-out}
 use Rattle.date_reader.proofs.Written.{two-read, four-read}

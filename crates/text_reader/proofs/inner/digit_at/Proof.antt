@@ -1,7 +1,7 @@
-use Rattle.date_reader.proofs.At.{digit-past, digit-low, digit-high, digit-found}
+use Rattle.text_reader.proofs.At.{digit-past, digit-low, digit-high, digit-found}
 use borrow.Author.Needs.{needs}
-use Rattle.date_reader.proofs.places.digit_at.Statement.{statement}
-use Rattle.date_reader.proofs.places.digit_at.Tie as tie
+use Rattle.text_reader.proofs.inner.digit_at.Statement.{statement}
+use Rattle.text_reader.proofs.inner.digit_at.Tie as tie
 
 returns : tie.Need-returns
 returns c = digit-past _ _ (c .if1 .taken)

@@ -1,8 +1,8 @@
 use mathlib.Core.Path.{refl}
-use Rattle.date_reader.proofs.At.{byte-past, byte-first, byte-second}
+use Rattle.text_reader.proofs.At.{byte-past, byte-first, byte-second}
 use borrow.Author.Needs.{needs}
-use Rattle.date_reader.proofs.places.is_at.Statement.{statement}
-use Rattle.date_reader.proofs.places.is_at.Tie as tie
+use Rattle.text_reader.proofs.inner.is_at.Statement.{statement}
+use Rattle.text_reader.proofs.inner.is_at.Tie as tie
 
 returns : tie.Need-returns
 returns c = byte-past _ _ _ _ (c .if1 .taken)

@@ -1,0 +1,4 @@
+pub mod Grammar
+pub mod Line
+pub mod Inner
+pub mod Laws
