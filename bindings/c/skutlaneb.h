@@ -166,7 +166,7 @@ enum {
     SKUT_TOO_MANY_VALUES = 19,  /* each array to encode has more than 65,536 values */
     SKUT_WIDE = 20,             /* strict: a difference of deltas is outside -2^31..2^31-1: array, index */
     SKUT_ROOM = 21,             /* the output is too short: the bytes needed */
-    SKUT_INPUT_TOO_LONG = 22,   /* the input of the program listing or listing_dates is above 16,384 bytes; no call here answers it */
+    SKUT_INPUT_TOO_LONG = 22,   /* the input of the program listing or listing_dates is above 16,384 bytes, or that of why above 65,536; no call here answers it */
     SKUT_WIDTH = 23,            /* a bit width is above 64, or outside 1..32 in sign extension */
     SKUT_BITS_SHORT = 24,       /* fewer bits are left than asked for: the bits left, 0 to 63 */
     SKUT_DATE_GRAMMAR = 25,     /* the text is not a date-time of RFC 3339's grammar, or its fraction has more than nine digits */
@@ -174,7 +174,7 @@ enum {
     SKUT_DATE_OUTSIDE = 27,     /* the second to write, or the one read once the offset is applied, is outside the years 0001 to 9999 */
     SKUT_TOTALS_FULL = 31,      /* the totals add up to 2^64-1, and one more offer would pass that: of a list, the position */
     SKUT_TOO_MANY_QUESTIONS = 35, /* a sheet's `used` is above 16 */
-    SKUT_BAD_QUESTION = 36      /* a line of the input of the program why is not a question; no call here answers it */
+    SKUT_BAD_QUESTION = 36      /* the input of the program why does not begin with the line of a question; no call here answers it */
 };
 
 /* Which of the kept keys answers a lookup. */

@@ -72,7 +72,8 @@ pub struct Why<A> {
 }
 
 impl SequenceTracker {
-    /// The second of a sequence number, as [`SequenceTracker::find_ts`] answers it, and why it is that one. It is refused as that is, and costs some more.
+    /// The second of a sequence number, as [`SequenceTracker::find_ts`] answers it, and why it is that one. It is refused as that is, and takes some 20 to 80
+    /// instructions more (docs/SPEED.md).
     ///
     /// ```no_run
     /// # use skutlaneb::{FindOption, Reason, Second, SequenceTracker, TrackedSeq, Why};

@@ -82,7 +82,8 @@ fn sentences() {
     assert_eq!(Error::DateOutside.to_string(), "the date, in UTC, is outside the years 0001 to 9999");
     assert_eq!(Error::TotalsFull.to_string(), "the table has counted 2^64-1 offers, and cannot count one more");
     assert_eq!(Error::TooManyQuestions.to_string(), "the sheet has more than sixteen questions");
-    assert_eq!(Error::BadQuestion.to_string(), "a line of the input is not a question");
+    assert_eq!(Error::InputTooLong.to_string(), "the input has more bytes than the program takes");
+    assert_eq!(Error::BadQuestion.to_string(), "the input does not begin with the line of a question");
 }
 
 fn where_it_stops() {
