@@ -1,18 +1,8 @@
--- What a run of `listing` or of `listing_dates` leaves in the lent buffers.
+-- What `listing` prints for an input; what `listing_dates` prints is `DatedListing`.
 use Prim.Native.Nat.{ℕ}
 use mathlib.Core.Path.{_≡_}
-use mathlib.Core.Bool.{cond}
 use mathlib.Core.List.{List}
-use lib.ListN.{take}
-use Rattle.told.specs.Over.{over}
 use Rattle.report.specs.Listing.{listingOf}
-use Rattle.input.specs.Input.{ReadInto}
-use Rattle.input.specs.declared.once.Over.{Over}
 
--- what `listing` prints for an input; what `listing_dates` prints is `DatedListing`
 abbrev pub Listing : List ℕ → List ℕ → Type 0
 Listing input text = text ≡ listingOf input
-
--- the input was read into the whole buffer, and the text buffer has what the program prints for its bytes; where a read failed, what stood there
-abbrev pub Ran : (List ℕ → List ℕ → Type 0) → Over → List ℕ → List ℕ → List ℕ → Type 0
-Ran Prints o input old new = ReadInto o input × cond (o .failed) (new ≡ old) ((text : List ℕ) × Prints (take (o .bytes) input) text × (new ≡ over text old))

@@ -3,10 +3,12 @@
 ghost use Prim.Native.Nat.{_≤_};
 ghost use lib.ListN.{length, take};
 ghost use Rattle.report.specs.Dated.{DatedListing};
-ghost use Rattle.listing_io.specs.Run.{Listing, Ran};
+ghost use Rattle.running.specs.Run.{Ran};
+ghost use Rattle.listing_io.specs.Run.{Listing};
 ghost use Rattle.listing_io.specs.Inner.{printsBy, Lists};
 use input::Over;
 use report::TEXT_ROOM;
+use running::inner::print;
 
 // One byte more than an image may have, so that too long an input is seen.
 pub const INPUT_ROOM: usize = 16385;
@@ -20,15 +22,6 @@ fn list(image: &[u8], n: usize, text: &mut [u8; TEXT_ROOM], dates: bool) -> usiz
         return report::listing_dates(&image[..n], text);
     }
     report::listing(&image[..n], text)
-}
-
-// `unwritten` is what is reported of a write that fails.
-fn print(text: &[u8], size: usize, unwritten: &[u8])
-    requires { ⌜ size ≤ length (now text) ⌝ }
-{
-    if !io::write_all(libc::STDOUT_FILENO, &text[..size]) {
-        os::fail(unwritten);
-    }
 }
 
 // Both programs: they differ in what is listed, and in their name. A read that fails is reported on standard error as `unread`, and

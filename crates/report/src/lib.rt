@@ -5,6 +5,7 @@ ghost use Rattle.report.specs.Listing.{listingOf};
 ghost use Rattle.report.specs.Dated.{ListsDates};
 ghost use Rattle.report.specs.Inner.{answerText, listingBy, Held};
 
+pub mod inner; // inner.rt: what our own crates call
 mod lines; // lines.rt: the lines of a listing
 mod number; // number.rt: the number of a refusal
 

@@ -1,7 +1,7 @@
 use mathlib.Core.Path.{refl}
 use borrow.Author.Needs.{needs}
 use Rattle.listing_io.specs.Inner.{printsBy}
-use Rattle.listing_io.proofs.Laws.{fits-there, not-read, ran}
+use Rattle.running.proofs.Laws.{fits-there, not-read, ran}
 use Rattle.listing_io.proofs.run_as.Statement.{statement}
 use Rattle.listing_io.proofs.run_as.Tie as tie
 

@@ -1,8 +1,8 @@
 use mathlib.Core.Path.{sym}
 use lib.Seq.{length-take-le}
 use borrow.Author.Needs.{needs}
-use Rattle.listing_io.proofs.print.Statement.{statement}
-use Rattle.listing_io.proofs.print.Tie as tie
+use Rattle.running.proofs.inner.print.Statement.{statement}
+use Rattle.running.proofs.inner.print.Tie as tie
 
 slice-aggregate-write-all : tie.Need-slice-aggregate-write-all
 slice-aggregate-write-all c = let st = c .before .before .before in sym (length-take-le _ (st .args .text .now) (st .pre))
