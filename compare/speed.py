@@ -88,6 +88,17 @@ def searched(found, name):
     return name.replace("1,000 lookups", "the search alone"), {"rust": row["rust"], "ours": row["ours"] - check}
 
 
+def reasons(found):
+    """Instructions of a lookup that tells why, beside those of the same lookup without."""
+    lines = ["| Data, pairs | `skut_find_ts` | `skut_why_ts` | With the reason / without |", "|---|---|---|---|"]
+    for name, row in found.items():
+        if name.startswith("1,000 reasons"):
+            lookup = found[name.replace("reasons", "lookups")]["ours"]
+            what = name.removeprefix("1,000 reasons").removeprefix(", ").removeprefix(" ")
+            lines.append(f"| {what} | {lookup / 1000:,.1f} | {row['ours'] / 1000:,.1f} | {row['ours'] / lookup:.3f} |")
+    return "\n".join(lines) + "\n"
+
+
 def sheets(found):
     """Instructions a question of sheets of sixteen, of the same questions one by one, and of the Rust."""
     lines = ["| Data, pairs | Rust | `skut_find_ts` | `skut_find_ts_16` | A sheet / one by one | A sheet / Rust |", "|---|---|---|---|---|---|"]
@@ -128,6 +139,8 @@ def page(found, times, digest):
         f"The check takes {check:.1f} instructions a kept pair. The search alone is what 1,000 lookups take beyond 1,000 calls of `skut_check` on the same table; it is counted only. "
         "All are by sequence; they round down, those marked up round up. Equal: all pairs are equal, and their sequence is asked for, so that every answer is the same.\n",
         table("Work, data, pairs", rows(lambda n: "lookups" in n) + searches, times),
+        "A lookup that tells why (`skut_why_ts`) has the same check and the same answer. The columns: the instructions of one lookup without the reason, and with it.\n",
+        reasons(found),
         "## Many questions\n",
         "A call on many questions checks the table once. A sheet has up to sixteen (`skut_find_ts_16`). Here 100 full ones, made before the count begins, ask by sequence and round down. "
         "The columns: the instructions a question takes of the Rust, of ours asked one by one, and of ours in a sheet, with a sixteenth of the check and of passing the sheet there and back; then the third as a part of the second, and of the first.\n",

@@ -1,5 +1,5 @@
-/* A table from C: offers and why some are skipped, what they come to, a strict save, a restore, lookups by sequence and by date, and many at once. The table
- * outlives every refused call. */
+/* A table from C: offers and why some are skipped, what they come to, a strict save, a restore, lookups by sequence and by date, many at once, and why one is
+ * answered as it is. The table outlives every refused call. */
 #include "skutlaneb.h"
 
 #include <stdio.h>
@@ -17,6 +17,7 @@ _Static_assert(sizeof(struct skut_ts_sheet) == 392 && offsetof(struct skut_ts_sh
 _Static_assert(sizeof(struct skut_seq_sheet) == 392 && offsetof(struct skut_seq_sheet, answers) == 128 && offsetof(struct skut_seq_sheet, used) == 384, "skut_seq_sheet");
 _Static_assert(sizeof(struct skut_ts_sheet_answer) == 440 && offsetof(struct skut_ts_sheet_answer, sheet) == 48, "skut_ts_sheet_answer");
 _Static_assert(sizeof(struct skut_seq_sheet_answer) == 440 && offsetof(struct skut_seq_sheet_answer, sheet) == 48, "skut_seq_sheet_answer");
+_Static_assert(sizeof(struct skut_why) == 88 && offsetof(struct skut_why, reason) == 48 && offsetof(struct skut_why, position) == 64, "skut_why");
 
 #define PLACES 8192
 
@@ -101,6 +102,38 @@ static int print_at_once(struct skut_state table)
     return 1;
 }
 
+/* Prints why the lookup of a sequence answers as it does, and gives whether it could. */
+static int print_why(struct skut_state table, uint64_t seq, uint32_t round)
+{
+    struct skut_why why = skut_why_ts(table, seqs, PLACES, secs, PLACES, seq, round);
+    if (why.answer.number != SKUT_DONE) {
+        return 0;
+    }
+    printf("why, sequence %llu, %s: ", (unsigned long long)seq, round == SKUT_ROUND_UP ? "up" : "down");
+    switch (why.reason) {
+    case SKUT_WHY_EXACT:
+        printf("pair %zu has it\n", why.position);
+        return 1;
+    case SKUT_WHY_ROUNDED_UP:
+    case SKUT_WHY_ROUNDED_DOWN:
+        if (why.has_below && why.has_above) {
+            printf("it is between pairs %zu and %zu, and pair %zu answers\n", why.below, why.above, why.position);
+        } else {
+            printf("it is %s, and pair %zu answers\n", why.has_below ? "after the last pair" : "before the first pair", why.position);
+        }
+        return 1;
+    case SKUT_WHY_BEFORE_FIRST:
+        printf("nothing, it is before the first pair\n");
+        return 1;
+    case SKUT_WHY_AFTER_LAST:
+        printf("nothing, it is after the last pair\n");
+        return 1;
+    default: /* SKUT_WHY_EMPTY */
+        printf("nothing, the table is empty\n");
+        return 1;
+    }
+}
+
 int main(void)
 {
     const uint64_t from_seqs[] = {100, 164, 170, 170, 170, 150};
@@ -145,6 +178,10 @@ int main(void)
         return 1;
     }
     if (!print_as_of(table, "1970-01-01T01:01:59.5+01:00") || !print_as_of(table, "1970-01-01T24:00:00Z") || !print_at_once(table)) {
+        return 1;
+    }
+    if (!print_why(table, 163, SKUT_ROUND_DOWN) || !print_why(table, 164, SKUT_ROUND_DOWN) || !print_why(table, 99, SKUT_ROUND_UP) ||
+        !print_why(table, 99, SKUT_ROUND_DOWN)) {
         return 1;
     }
     print_totals("restored", table.totals); /* an image does not carry them */

@@ -130,6 +130,17 @@ struct skut_seq_sheet_answer {
     struct skut_seq_sheet sheet;
 };
 
+/* A lookup's answer, and why it is that. `answer` is what skut_find_ts or skut_find_seq answers to the same question, in all of its numbers. `reason` is a number
+ * of the list SKUT_WHY_. `position` is that of the pair that answers, with the reasons 1, 2 and 3. Where no key equals the one asked for, and one answers (2 and 3),
+ * `below` is the position of the last smaller key and `above` that of the first greater one; the one that the rounding takes is always there, and answers, and the
+ * other is there unless the one asked for is below the first key or above the last. `has_below` and `has_above` are 1 where there is such a position, and else 0.
+ * Positions count the kept pairs from 0; one that is not told is 0. Refused, all but `answer` is 0. */
+struct skut_why {
+    struct skut_answer answer;
+    uint32_t reason, has_below, has_above;
+    size_t position, below, above;
+};
+
 /* The numbers. "Array" is 0 for the sequences and 1 for the seconds; an index or a position counts from 0. What is told stands in a, b, c in
  * the order named. A place comes last, and stands in byte and bit. */
 enum {
@@ -155,20 +166,32 @@ enum {
     SKUT_TOO_MANY_VALUES = 19,  /* each array to encode has more than 65,536 values */
     SKUT_WIDE = 20,             /* strict: a difference of deltas is outside -2^31..2^31-1: array, index */
     SKUT_ROOM = 21,             /* the output is too short: the bytes needed */
-    SKUT_INPUT_TOO_LONG = 22,   /* the input of the program listing or listing_dates is above 16,384 bytes; no call here answers it */
+    SKUT_INPUT_TOO_LONG = 22,   /* the input of the program listing or listing_dates is above 16,384 bytes, or that of why above 65,536; no call here answers it */
     SKUT_WIDTH = 23,            /* a bit width is above 64, or outside 1..32 in sign extension */
     SKUT_BITS_SHORT = 24,       /* fewer bits are left than asked for: the bits left, 0 to 63 */
     SKUT_DATE_GRAMMAR = 25,     /* the text is not a date-time of RFC 3339's grammar, or its fraction has more than nine digits */
     SKUT_NO_SUCH_TIME = 26,     /* the text is of that form, but there is no such date, time of day or offset */
     SKUT_DATE_OUTSIDE = 27,     /* the second to write, or the one read once the offset is applied, is outside the years 0001 to 9999 */
     SKUT_TOTALS_FULL = 31,      /* the totals add up to 2^64-1, and one more offer would pass that: of a list, the position */
-    SKUT_TOO_MANY_QUESTIONS = 35 /* a sheet's `used` is above 16 */
+    SKUT_TOO_MANY_QUESTIONS = 35, /* a sheet's `used` is above 16 */
+    SKUT_BAD_QUESTION = 36      /* the input of the program why does not begin with the line of a question; no call here answers it */
 };
 
 /* Which of the kept keys answers a lookup. */
 enum {
     SKUT_ROUND_UP = 0,  /* the first that is not below the one asked for */
     SKUT_ROUND_DOWN = 1 /* the last that is not above it; any other number does the same */
+};
+
+/* Why a lookup answers as it does. Each question to a good table has exactly one of the reasons 1 to 6: with 1, 2 and 3 a pair answers, with 4, 5 and 6 none. */
+enum {
+    SKUT_WHY_REFUSED = 0,      /* the call is refused, by the number of its answer */
+    SKUT_WHY_EXACT = 1,        /* a kept key equals the one asked for; of several, SKUT_ROUND_UP takes the lowest position and SKUT_ROUND_DOWN the highest */
+    SKUT_WHY_ROUNDED_UP = 2,   /* none equals it, and the first greater one answers: `position` is `above`; `below` is the one before it, where there is one */
+    SKUT_WHY_ROUNDED_DOWN = 3, /* none equals it, and the last smaller one answers: `position` is `below`; `above` is the one after it, where there is one */
+    SKUT_WHY_BEFORE_FIRST = 4, /* SKUT_ROUND_DOWN, and all kept keys are greater */
+    SKUT_WHY_AFTER_LAST = 5,   /* SKUT_ROUND_UP, and all kept keys are smaller */
+    SKUT_WHY_EMPTY = 6         /* the table keeps no pair */
 };
 
 /* ---- A table */
@@ -231,6 +254,12 @@ struct skut_answer skut_find_ts_each(struct skut_state state, const uint64_t *se
 /* The sequence of each second of a list, likewise, as skut_find_seq would answer. Stack: 768 bytes. */
 struct skut_answer skut_find_seq_each(struct skut_state state, const uint64_t *seqs, size_t seqs_len, const int64_t *secs, size_t secs_len,
                                       const int64_t *keys, size_t keys_len, uint64_t *answers, size_t answers_len, uint8_t *found, size_t found_len, uint32_t round);
+
+/* What skut_find_ts answers to the same question, and why. Stack: 384 bytes. */
+struct skut_why skut_why_ts(struct skut_state state, const uint64_t *seqs, size_t seqs_len, const int64_t *secs, size_t secs_len, uint64_t seq, uint32_t round);
+
+/* What skut_find_seq answers to the same question, and why. Stack: 384 bytes. */
+struct skut_why skut_why_seq(struct skut_state state, const uint64_t *seqs, size_t seqs_len, const int64_t *secs, size_t secs_len, int64_t sec, uint32_t round);
 
 /* Writes the table's image, and a is its length: 21. An image of n pairs has at most 9n + 21 bytes. The bytes are those that slatedb writes, also where
  * they read back as other pairs: (0, 0), (2^33, 60) come back as (0, 0), (0, 60). Stack: 640 bytes. */

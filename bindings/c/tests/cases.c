@@ -48,6 +48,32 @@ void answers(const char *call, const char *when, struct skut_answer got, uint32_
     answers_all(call, when, got, (struct skut_answer){number, a, b, c, 0, 0});
 }
 
+int same_why(struct skut_why one, struct skut_why other)
+{
+    return same(one.answer, other.answer) && one.reason == other.reason && one.has_below == other.has_below && one.has_above == other.has_above &&
+           one.position == other.position && one.below == other.below && one.above == other.above;
+}
+
+const char *why_text(struct skut_why why)
+{
+    static char texts[2][320];
+    static int turn;
+    char *text = texts[turn ^= 1];
+    snprintf(text, sizeof texts[0], "%s, reason %u, position %zu, below %zu marked %u, above %zu marked %u", shown(why.answer), why.reason, why.position,
+             why.below, why.has_below, why.above, why.has_above);
+    return text;
+}
+
+void explains(const char *call, const char *when, struct skut_why got, struct skut_why due)
+{
+    holds(call, when, same_why(got, due), "expected %s, and it is %s", why_text(due), why_text(got));
+}
+
+void explains_nothing(const char *call, const char *when, struct skut_why got, uint32_t number, uint64_t a)
+{
+    explains(call, when, got, (struct skut_why){.answer = {.number = number, .a = a}, .reason = SKUT_WHY_REFUSED});
+}
+
 static int same_totals(struct skut_totals one, struct skut_totals other)
 {
     return one.recorded == other.recorded && one.went_back == other.went_back && one.too_soon == other.too_soon && one.refused == other.refused;

@@ -29,6 +29,12 @@ void answers(const char *call, const char *when, struct skut_answer got, uint32_
 /* An answer, with its place. */
 void answers_all(const char *call, const char *when, struct skut_answer got, struct skut_answer due);
 
+/* Why a lookup answers as it does: all that a struct skut_why tells. */
+void explains(const char *call, const char *when, struct skut_why got, struct skut_why due);
+
+/* The same of a table that is refused by this number, with a. */
+void explains_nothing(const char *call, const char *when, struct skut_why got, uint32_t number, uint64_t a);
+
 /* A call that is not refused: what it counts, and its state. */
 void gives(const char *call, const char *when, struct skut_table_answer got, struct skut_tally tally, struct skut_state state);
 
@@ -45,6 +51,10 @@ void gives_none_all(const char *call, const char *when, struct skut_table_answer
 const char *taken_by(struct skut_state state);
 
 int same_state(struct skut_state one, struct skut_state other);
+int same_why(struct skut_why one, struct skut_why other);
+
+/* What a struct skut_why tells, as text, in one of two places that are used in turn. */
+const char *why_text(struct skut_why why);
 
 /* The state, with the offers of a tally and these refused ones counted more, and with none counted. */
 struct skut_state counting(struct skut_state state, struct skut_tally tally, uint64_t refused);
@@ -61,6 +71,7 @@ void reason_cases(void);
 void place_cases(void);
 void interval_cases(void);
 void question_cases(void);
+void why_cases(void);
 void total_cases(void);
 void date_cases(void);
 

@@ -13,6 +13,7 @@ int main(void)
     place_cases();
     interval_cases();
     question_cases();
+    why_cases();
     total_cases();
     date_cases();
     return all_passed() ? 0 : 1;

@@ -61,6 +61,10 @@ static void bad_tables(struct skut_state table, const struct lending *lent)
     gives_none("skut_extend_from, other", lent->name, skut_extend_from(table, ROOM, table, LENT), SKUT_STATE_DISAGREES, 1);
     answers("skut_find_ts", lent->name, skut_find_ts(table, LENT, 5, SKUT_ROUND_UP), SKUT_STATE_DISAGREES, 0, 0, 0);
     answers("skut_find_seq", lent->name, skut_find_seq(table, LENT, 60, SKUT_ROUND_DOWN), SKUT_STATE_DISAGREES, 0, 0, 0);
+    explains_nothing("skut_why_ts", lent->name, skut_why_ts(table, LENT, 5, SKUT_ROUND_UP), SKUT_STATE_DISAGREES, 0);
+    explains_nothing("skut_why_ts of capacity 0", lent->name, skut_why_ts(least, LENT, 5, SKUT_ROUND_DOWN), SKUT_STATE_DISAGREES, 0);
+    explains_nothing("skut_why_seq", lent->name, skut_why_seq(table, LENT, 60, SKUT_ROUND_DOWN), SKUT_STATE_DISAGREES, 0);
+    explains_nothing("skut_why_seq of capacity 0", lent->name, skut_why_seq(least, LENT, 60, SKUT_ROUND_UP), SKUT_STATE_DISAGREES, 0);
     bad_questions(table, lent);
     answers("skut_save", lent->name, skut_save(table, LENT, out, sizeof out), SKUT_STATE_DISAGREES, 0, 0, 0);
     answers("skut_save, output NULL", lent->name, skut_save(table, LENT, NONE), SKUT_STATE_DISAGREES, 0, 0, 0);
@@ -86,6 +90,8 @@ static void good_tables(struct skut_state table)
     gives("skut_extend_from", "an empty table of capacity 0", skut_extend_from(table, ROOM, least, seqs, 1, secs, 1), NO_PAIR, table);
     answers("skut_find_ts", "an empty table", skut_find_ts(table, ROOM, 5, SKUT_ROUND_DOWN), SKUT_DONE, 0, 0, 0);
     answers("skut_find_seq", "an empty table", skut_find_seq(table, ROOM, 60, SKUT_ROUND_UP), SKUT_DONE, 0, 0, 0);
+    explains("skut_why_ts", "an empty table", skut_why_ts(table, ROOM, 5, SKUT_ROUND_DOWN), (struct skut_why){.reason = SKUT_WHY_EMPTY});
+    explains("skut_why_seq", "an empty table", skut_why_seq(table, ROOM, 60, SKUT_ROUND_UP), (struct skut_why){.reason = SKUT_WHY_EMPTY});
     answers("skut_save", "an empty table, output NULL", skut_save(table, ROOM, NONE), SKUT_ROOM, 13, 0, 0);
     answers("skut_save_strict", "an empty table, output NULL", skut_save_strict(table, ROOM, NONE), SKUT_ROOM, 13, 0, 0);
 }

@@ -27,6 +27,8 @@ const char *taken_by(struct skut_state state)
         {"skut_find_seq_16", skut_find_seq_16(state, OWN, (struct skut_seq_sheet){.used = 1}, SKUT_ROUND_DOWN).answer.number},
         {"skut_find_ts_each", skut_find_ts_each(state, OWN, NONE, NONE, NONE, SKUT_ROUND_UP).number},
         {"skut_find_seq_each", skut_find_seq_each(state, OWN, NONE, NONE, NONE, SKUT_ROUND_DOWN).number},
+        {"skut_why_ts", skut_why_ts(state, OWN, 1, SKUT_ROUND_UP).answer.number},
+        {"skut_why_seq", skut_why_seq(state, OWN, 1, SKUT_ROUND_DOWN).answer.number},
         {"skut_save", skut_save(state, OWN, out, sizeof out).number},
         {"skut_save_strict", skut_save_strict(state, OWN, out, sizeof out).number},
     };

@@ -5,7 +5,7 @@
 //!
 //! Why a list of questions and its answers may be lent as numbers: `Seq` and `Second` are `repr(transparent)`, so that a slice of them is laid out as one of their
 //! numbers, and whatever number is written there is one of them. A `bool` is a byte that holds 0 or 1, and the library writes nothing else to a mark, as is proved.
-use crate::sys::{self, Answer, SeqSheet, SeqSheetAnswer, State, TableAnswer, TsSheet, TsSheetAnswer};
+use crate::sys::{self, Answer, SeqSheet, SeqSheetAnswer, State, TableAnswer, TsSheet, TsSheetAnswer, WhyAnswer};
 use crate::{Error, Second, Seq};
 
 /// The answer of a call that was not refused.
@@ -67,6 +67,14 @@ pub fn find_seq_each(state: State, seqs: &[u64], secs: &[i64], keys: &[Second], 
     let (s, n, z, m) = (seqs.as_ptr(), seqs.len(), secs.as_ptr(), secs.len());
     let (k, a, f) = (keys.as_ptr().cast::<i64>(), to.0.as_mut_ptr().cast::<u64>(), to.1.as_mut_ptr().cast::<u8>());
     unsafe { sys::skut_find_seq_each(state, s, n, z, m, k, keys.len(), a, to.0.len(), f, to.1.len(), round) }
+}
+
+pub fn why_ts(state: State, seqs: &[u64], secs: &[i64], seq: u64, round: u32) -> WhyAnswer {
+    unsafe { sys::skut_why_ts(state, seqs.as_ptr(), seqs.len(), secs.as_ptr(), secs.len(), seq, round) }
+}
+
+pub fn why_seq(state: State, seqs: &[u64], secs: &[i64], sec: i64, round: u32) -> WhyAnswer {
+    unsafe { sys::skut_why_seq(state, seqs.as_ptr(), seqs.len(), secs.as_ptr(), secs.len(), sec, round) }
 }
 
 pub fn save(state: State, seqs: &[u64], secs: &[i64], out: &mut [u8]) -> Answer {

@@ -93,7 +93,7 @@ pub enum Error {
     Wide { array: Array, index: u64 },
     /// 21: the output is too short, and the bytes that it would have to have.
     Room { bytes: u64 },
-    /// 22: the input of the program `listing` or `listing_dates` is above 16,384 bytes. No call answers it.
+    /// 22: the input of the program `listing` or `listing_dates` is above 16,384 bytes, or that of `why` above 65,536. No call answers it.
     InputTooLong,
     /// 23: a bit width is above 64, or outside 1..32 in sign extension.
     Width,
@@ -109,7 +109,10 @@ pub enum Error {
     TotalsFull,
     /// 35: a sheet has more than sixteen questions.
     TooManyQuestions,
-    /// A number that is not on the list: the library is not the one that this crate was written for.
+    /// 36: the input of the program `why` does not begin with the line of a question. No call answers it.
+    BadQuestion,
+    /// A number that is not on the list, or the number of a [`Reason`](crate::Reason) that is none of the six or does not fit its answer: the library is not the one
+    /// that this crate was written for.
     Unlisted { number: u32 },
 }
 
@@ -146,6 +149,7 @@ impl Error {
             Error::DateOutside => 27,
             Error::TotalsFull => 31,
             Error::TooManyQuestions => 35,
+            Error::BadQuestion => 36,
             Error::Unlisted { number } => number,
         }
     }
@@ -194,6 +198,7 @@ impl Error {
             27 => Error::DateOutside,
             31 => Error::TotalsFull,
             35 => Error::TooManyQuestions,
+            36 => Error::BadQuestion,
             number => Error::Unlisted { number },
         })
     }
@@ -233,7 +238,7 @@ impl fmt::Display for Error {
                 "saved, the table would read back as other pairs: value {index} of the {array} is too far from where the two before it lead"
             ),
             Error::Room { bytes } => write!(f, "the output is too short: {bytes} bytes are needed"),
-            Error::InputTooLong => f.write_str("the input has more than 16,384 bytes"),
+            Error::InputTooLong => f.write_str("the input has more bytes than the program takes"),
             Error::Width => f.write_str("so many bits cannot be read, written or extended at once"),
             Error::BitsShort { left: 0 } => f.write_str("no bit is left, and more were asked for"),
             Error::BitsShort { left: 1 } => f.write_str("only 1 bit is left, and more were asked for"),
@@ -243,6 +248,7 @@ impl fmt::Display for Error {
             Error::DateOutside => f.write_str("the date, in UTC, is outside the years 0001 to 9999"),
             Error::TotalsFull => f.write_str("the table has counted 2^64-1 offers, and cannot count one more"),
             Error::TooManyQuestions => f.write_str("the sheet has more than sixteen questions"),
+            Error::BadQuestion => f.write_str("the input does not begin with the line of a question"),
             Error::Unlisted { number } => {
                 write!(f, "the library answered {number}, which this crate does not know: the two are of different versions")
             }

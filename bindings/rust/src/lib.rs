@@ -28,6 +28,8 @@
 //! Each lookup checks the whole table first. Many questions to one table are asked at once, with one check for all of them, by [`SequenceTracker::find_ts_16`],
 //! on a [`Sheet`] of up to sixteen, or by [`SequenceTracker::find_ts_each`], on a list.
 //!
+//! Why a lookup answers as it does, exactly, rounded or with nothing, is told by [`SequenceTracker::why_ts`] and [`SequenceTracker::why_seq`], as a [`Reason`].
+//!
 //! A second is written as a date by [`Second::to_rfc3339`] and read from one by [`Second::from_rfc3339`]; [`Rfc3339`] is the date.
 //!
 //! [`image`] writes and reads images with no table, [`bits`] has the library's calls for bits, and [`sys`] the library's functions as they are.
@@ -52,5 +54,5 @@ pub use dates::Rfc3339;
 pub use error::{Array, Error};
 pub use lists::{ListError, Tally};
 pub use times::NoSystemTime;
-pub use tracker::{FindOption, Inserted, Pairs, SeqSheet, SequenceTracker, Sheet, Totals, TsSheet};
+pub use tracker::{FindOption, Inserted, Pairs, Reason, SeqSheet, SequenceTracker, Sheet, Totals, TsSheet, Why};
 pub use values::{Second, Seq, TrackedSeq};

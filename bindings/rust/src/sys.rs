@@ -114,6 +114,21 @@ pub struct SeqSheetAnswer {
     pub sheet: SeqSheet,
 }
 
+/// The answer of the lookup that asks the same, and why it is that. `reason` is 0 where the call is refused; 1 exact; 2 rounded up; 3 rounded down; 4 before the
+/// first; 5 after the last; 6 table empty. `position` is that of the pair that answers (1, 2, 3). `below` and `above` are the positions of the neighbouring keys of one
+/// that is not there (2, 3): where there is such a key, `has_below` or `has_above` is 1. What is not told is 0.
+#[repr(C)]
+#[derive(Clone, Copy, Debug, Default, PartialEq, Eq)]
+pub struct WhyAnswer {
+    pub answer: Answer,
+    pub reason: u32,
+    pub has_below: u32,
+    pub has_above: u32,
+    pub position: usize,
+    pub below: usize,
+    pub above: usize,
+}
+
 #[link(name = "skutlaneb", kind = "static")]
 #[rustfmt::skip]
 extern "C" {
@@ -129,6 +144,8 @@ extern "C" {
     pub fn skut_find_seq_16(state: State, seqs: *const u64, n: usize, secs: *const i64, m: usize, sheet: SeqSheet, round: u32) -> SeqSheetAnswer;
     pub fn skut_find_ts_each(state: State, seqs: *const u64, n: usize, secs: *const i64, m: usize, keys: *const u64, i: usize, answers: *mut i64, j: usize, found: *mut u8, k: usize, round: u32) -> Answer;
     pub fn skut_find_seq_each(state: State, seqs: *const u64, n: usize, secs: *const i64, m: usize, keys: *const i64, i: usize, answers: *mut u64, j: usize, found: *mut u8, k: usize, round: u32) -> Answer;
+    pub fn skut_why_ts(state: State, seqs: *const u64, n: usize, secs: *const i64, m: usize, seq: u64, round: u32) -> WhyAnswer;
+    pub fn skut_why_seq(state: State, seqs: *const u64, n: usize, secs: *const i64, m: usize, sec: i64, round: u32) -> WhyAnswer;
     pub fn skut_save(state: State, seqs: *const u64, n: usize, secs: *const i64, m: usize, out: *mut u8, k: usize) -> Answer;
     pub fn skut_save_strict(state: State, seqs: *const u64, n: usize, secs: *const i64, m: usize, out: *mut u8, k: usize) -> Answer;
     pub fn skut_restore(bytes: *const u8, k: usize, seqs: *mut u64, n: usize, secs: *mut i64, m: usize) -> TableAnswer;

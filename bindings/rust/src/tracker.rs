@@ -5,6 +5,7 @@ mod pairs;
 mod questions;
 mod stored;
 mod totals;
+mod why;
 
 use crate::calls;
 use crate::sys::State;
@@ -16,6 +17,7 @@ pub use offers::Inserted;
 pub use pairs::Pairs;
 pub use questions::{SeqSheet, Sheet, TsSheet};
 pub use totals::Totals;
+pub use why::{Reason, Why};
 
 /// Which second a sequence number belongs to, and which sequence number a second.
 ///

@@ -190,6 +190,12 @@ fn lookups(bench: &mut Bench, data: &str, n: usize) {
     let checks = || (0..1000).map(|_| black_box(&ours).check().number).max();
     assert_eq!(checks(), Some(0));
     bench.alone(&format!("1,000 checks, {data}, {n}"), "ours", checks);
+    // The same lookups with their reasons.
+    for (up, round) in [("", 1), (" up", 0)] {
+        asked.iter().for_each(|&q| assert_eq!(ours.why_ts(q, round).answer, ours.find_ts(q, round)));
+        let why = || black_box(&asked).iter().map(|&q| ours.why_ts(q, round).answer.b as i64).fold(0, i64::wrapping_add);
+        bench.alone(&format!("1,000 reasons{up}, {data}, {n}"), "ours", why);
+    }
 }
 
 /// Keeps an answer from being left out, and does not copy it.

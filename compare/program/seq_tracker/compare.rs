@@ -21,6 +21,7 @@ mod stores;
 mod tally;
 mod theirs;
 mod totals;
+mod why;
 
 use chance::Chance;
 use tally::Tally;
@@ -62,6 +63,7 @@ pub(crate) fn main(words: Vec<String>) -> i32 {
     lists::exhaustive(&mut tally);
     lookups::exhaustive(&mut tally);
     questions::exhaustive(&mut tally);
+    why::exhaustive(&mut tally);
     halving::exhaustive(&mut tally);
     dates::exhaustive(&mut tally);
     for _ in 0..rounds {
@@ -75,7 +77,7 @@ pub(crate) fn main(words: Vec<String>) -> i32 {
         refusals::random(&mut tally, &mut chance);
         totals::random(&mut tally, &mut chance);
     }
-    // dates last, then halving, and then many questions: what is random before them is the same as without them
+    // dates last, then halving, then many questions, and then reasons: what is random before them is the same as without them
     for _ in 0..rounds {
         dates::random(&mut tally, &mut chance);
     }
@@ -85,6 +87,10 @@ pub(crate) fn main(words: Vec<String>) -> i32 {
     for _ in 0..rounds {
         questions::random(&mut tally, &mut chance);
         refusals::questions(&mut tally, &mut chance);
+    }
+    for _ in 0..rounds {
+        why::random(&mut tally, &mut chance);
+        refusals::reasons(&mut tally, &mut chance);
     }
     tally.print();
     0

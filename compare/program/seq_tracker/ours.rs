@@ -7,7 +7,7 @@ mod linked;
 
 /// What the library calls a tally has another name here, where a `Tally` counts comparisons.
 pub use linked::{Answer, State, TableAnswer, Tally as Counts, Totals};
-pub use linked::{SeqAnswer, SeqSheet, SeqSheetAnswer, TsAnswer, TsSheet, TsSheetAnswer};
+pub use linked::{SeqAnswer, SeqSheet, SeqSheetAnswer, TsAnswer, TsSheet, TsSheetAnswer, WhyAnswer};
 
 /// Number 0, and nothing more. What tells less than an answer can is 0 in the rest of it.
 pub const OK: Answer = Answer { number: 0, a: 0, b: 0, c: 0, byte: 0, bit: 0 };
@@ -156,6 +156,16 @@ impl Table {
         let ((p, n), (q, m)) = (self.seqs.of(), self.secs.of());
         let ((x, i), (y, j), (z, k)) = (keys.of(), answers.of_mut(), found.of_mut());
         unsafe { linked::skut_find_seq_each(self.state, p, n, q, m, x, i, y, j, z, k, round) }
+    }
+
+    pub fn why_ts(&self, seq: u64, round: u32) -> WhyAnswer {
+        let ((p, n), (q, m)) = (self.seqs.of(), self.secs.of());
+        unsafe { linked::skut_why_ts(self.state, p, n, q, m, seq, round) }
+    }
+
+    pub fn why_seq(&self, sec: i64, round: u32) -> WhyAnswer {
+        let ((p, n), (q, m)) = (self.seqs.of(), self.secs.of());
+        unsafe { linked::skut_why_seq(self.state, p, n, q, m, sec, round) }
     }
 
     pub fn save(&self, strict: bool, out: &mut Lent<u8>) -> Answer {

@@ -6,10 +6,11 @@ use super::lent::{self, holding, Lent};
 use super::lists;
 use super::lookups::{self, Kinds};
 use super::offers::{self, made, shown, table_of};
-use super::ours::{Answer, SeqAnswer, SeqSheet, Table, TsAnswer, TsSheet, OK};
+use super::ours::{Answer, SeqAnswer, SeqSheet, Table, TsAnswer, TsSheet, WhyAnswer, OK};
 use super::stores;
 use super::tally::Tally;
 use super::theirs;
+use super::why::{Reasons, BY_SECOND, BY_SEQUENCE};
 use std::fmt::Debug;
 
 /// A sheet of either kind: an answer is its mark and its value, of a second the bits.
@@ -22,8 +23,8 @@ pub struct Sheet<K> {
 
 /// What is counted of one form: each place by what it asks, and beside a single lookup.
 pub struct Form {
-    kinds: Kinds,
-    alone: &'static str,
+    pub kinds: Kinds,
+    pub alone: &'static str,
 }
 
 /// What a question asks by: a sequence, or a second.
@@ -31,7 +32,10 @@ pub trait Key: Copy + Debug + Ord {
     type Partner: Key;
     const SHEET: Form;
     const LIST: Form;
+    const WHY: Reasons;
     fn bits(self) -> u64;
+    /// The keys that the Rust keeps.
+    fn kept(t: &SequenceTracker) -> &[Self];
     fn any(chance: &mut Chance) -> Self;
     /// A key about one of a table's, or at the ends of what the Rust can be asked.
     fn about(chance: &mut Chance, t: &SequenceTracker) -> Self;
@@ -39,6 +43,7 @@ pub trait Key: Copy + Debug + Ord {
     /// The partners of the equal keys, in order.
     fn equal(self, t: &SequenceTracker) -> Vec<u64>;
     fn alone(self, ours: &Table, round: u32) -> Answer;
+    fn why(self, ours: &Table, round: u32) -> WhyAnswer;
     fn sixteen(ours: &Table, sheet: Sheet<Self>, round: u32) -> (Answer, Sheet<Self>);
     fn each(ours: &Table, keys: &Lent<Self>, answers: &mut Lent<Self::Partner>, found: &mut Lent<u8>, round: u32) -> Answer;
 }
@@ -63,9 +68,14 @@ impl Key for u64 {
         },
         alone: "questions of a list, by sequence, as one lookup",
     };
+    const WHY: Reasons = BY_SEQUENCE;
 
     fn bits(self) -> u64 {
         self
+    }
+
+    fn kept(t: &SequenceTracker) -> &[u64] {
+        &t.sequence_numbers
     }
 
     fn any(chance: &mut Chance) -> u64 {
@@ -90,6 +100,10 @@ impl Key for u64 {
 
     fn alone(self, ours: &Table, round: u32) -> Answer {
         ours.find_ts(self, round)
+    }
+
+    fn why(self, ours: &Table, round: u32) -> WhyAnswer {
+        ours.why_ts(self, round)
     }
 
     fn sixteen(ours: &Table, sheet: Sheet<u64>, round: u32) -> (Answer, Sheet<u64>) {
@@ -124,9 +138,14 @@ impl Key for i64 {
         },
         alone: "questions of a list, by second, as one lookup",
     };
+    const WHY: Reasons = BY_SECOND;
 
     fn bits(self) -> u64 {
         self as u64
+    }
+
+    fn kept(t: &SequenceTracker) -> &[i64] {
+        &t.timestamps
     }
 
     fn any(chance: &mut Chance) -> i64 {
@@ -149,6 +168,10 @@ impl Key for i64 {
 
     fn alone(self, ours: &Table, round: u32) -> Answer {
         ours.find_seq(self, round)
+    }
+
+    fn why(self, ours: &Table, round: u32) -> WhyAnswer {
+        ours.why_seq(self, round)
     }
 
     fn sixteen(ours: &Table, sheet: Sheet<i64>, round: u32) -> (Answer, Sheet<i64>) {
@@ -176,7 +199,7 @@ pub fn sheet_of<K: Key>(chance: &mut Chance, keys: &[K]) -> Sheet<K> {
 }
 
 /// Both ways, by the call's number: any but 0 rounds down.
-fn rounds(chance: &mut Chance) -> [(FindOption, u32); 2] {
+pub fn rounds(chance: &mut Chance) -> [(FindOption, u32); 2] {
     [(FindOption::RoundUp, 0), (FindOption::RoundDown, chance.of(&[1, 1, 1, 2, u32::MAX]))]
 }
 
@@ -268,30 +291,34 @@ pub fn exhaustive(tally: &mut Tally) {
     });
 }
 
+/// What is asked of a table, with so many questions at most.
+type Asks<'a> = &'a dyn Fn(&mut Tally, &mut Chance, &SequenceTracker, &Table, usize);
+
 /// A table that is just made, then filled by lists of offers, and halved.
-fn offered(tally: &mut Tally, chance: &mut Chance) {
+fn offered(tally: &mut Tally, chance: &mut Chance, ask: Asks) {
     let mut t = offers::empty(chance);
     let mut ours = made(tally, chance, &t);
     for _ in 0..1 + chance.below(4) {
         let n = chance.index(20);
         let (seqs, secs) = lists::log(chance, &t, n, t.interval_secs.min(1000));
         lists::list(tally, &mut t, &mut ours, &seqs, &secs);
-        both(tally, chance, &t, &ours, 40);
+        ask(tally, chance, &t, &ours, 40);
     }
 }
 
 /// A table that is restored, goes on, and is saved and restored again.
-fn restored(tally: &mut Tally, chance: &mut Chance) {
+fn restored(tally: &mut Tally, chance: &mut Chance, ask: Asks) {
     let n = 1 + chance.index(20);
     let (mut t, mut ours) = stores::begun(tally, chance, n);
-    both(tally, chance, &t, &ours, 40);
+    ask(tally, chance, &t, &ours, 40);
     let (seqs, secs) = lists::log(chance, &t, n, t.interval_secs);
     lists::list(tally, &mut t, &mut ours, &seqs, &secs);
     stores::reload(tally, chance, &t, &mut ours, t.interval_secs);
-    both(tally, chance, &t, &ours, 40);
+    ask(tally, chance, &t, &ours, 40);
 }
 
-pub fn random(tally: &mut Tally, chance: &mut Chance) {
+/// Asks tables of every kind: with any totals, and one of them full; filled and halved by lists of offers; and restored.
+pub fn tables(tally: &mut Tally, chance: &mut Chance, ask: Asks) {
     for i in 0..60 {
         // one table is full: each question's single lookup checks all of it, so that it is asked less
         let (n, most) = if i == 59 { (8192, 100) } else { (chance.index(30), 300) };
@@ -301,12 +328,16 @@ pub fn random(tally: &mut Tally, chance: &mut Chance) {
         let counted = chance.of_every_sum();
         let totals = chance.totals(counted);
         let ours = table_of(chance, &t).with_totals(totals);
-        both(tally, chance, &t, &ours, most);
+        ask(tally, chance, &t, &ours, most);
     }
     for _ in 0..20 {
-        offered(tally, chance);
+        offered(tally, chance, ask);
     }
     for _ in 0..3 {
-        restored(tally, chance);
+        restored(tally, chance, ask);
     }
+}
+
+pub fn random(tally: &mut Tally, chance: &mut Chance) {
+    tables(tally, chance, &both);
 }

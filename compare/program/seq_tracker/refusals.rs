@@ -3,7 +3,7 @@ use super::chance::{Chance, FIRST_SECOND, LAST_SECOND};
 use super::lent;
 use super::lists;
 use super::offers::{self, outside};
-use super::ours::{self, Answer, Table, TableAnswer, NO_OFFERS, NO_STATE, OK};
+use super::ours::{self, Answer, Table, TableAnswer, WhyAnswer, NO_OFFERS, NO_STATE, OK};
 use super::questions::{lend, sheet_of, Key, Sheet};
 use super::readers::unfit;
 use super::restores::due;
@@ -75,7 +75,7 @@ fn described(t: &Table) -> String {
     format!("{:?}, sequences {:?}, seconds {:?}", t.state, t.seqs.places(), t.secs.places())
 }
 
-/// Every call on a table that the rules refuse, but those of many questions.
+/// Every call on a table that the rules refuse, but those of many questions and of reasons.
 fn bad_table(tally: &mut Tally, chance: &mut Chance) {
     let mut t = spoiled(chance);
     let Some(rule) = judged(&t) else {
@@ -249,6 +249,25 @@ pub fn questions(tally: &mut Tally, chance: &mut Chance) {
         many_questions::<u64>(tally, chance, &t);
         many_questions::<i64>(tally, chance, &t);
         tally.holds("refused sheets and lists of questions, the table", || described(&t), &before, &(t.seqs.all(), t.secs.all()));
+    }
+}
+
+/// Why a lookup answers as it does, of a table that the rules refuse: the refusal, no reason and no position.
+pub fn reasons(tally: &mut Tally, chance: &mut Chance) {
+    for _ in 0..1000 {
+        let t = spoiled(chance);
+        let Some(rule) = judged(&t) else { continue };
+        let kind = ["reasons refused, 11", "reasons refused, 12", "reasons refused, 13", "reasons refused, 14"][rule.number as usize - 11];
+        let due = WhyAnswer { answer: rule, reason: 0, has_below: 0, has_above: 0, position: 0, below: 0, above: 0 };
+        let before = (t.seqs.all(), t.secs.all());
+        let (key, round) = (chance.word(), chance.of(&[0, 1, 2, u32::MAX]));
+        let near = chance.of(t.seqs.places());
+        let input = || format!("{key} and {near}, round {round}, in {}", described(&t));
+        for seq in [key, near] {
+            tally.ruled(kind, input, &due, &t.why_ts(seq, round));
+            tally.ruled(kind, input, &due, &t.why_seq(seq as i64, round));
+        }
+        tally.kept(kind, input, &before, &(t.seqs.all(), t.secs.all()));
     }
 }
 

@@ -23,7 +23,7 @@ impl FindOption {
 
 impl SequenceTracker {
     /// The second of a sequence number. Among equal sequences the first one kept answers with `RoundUp`, the last one with `RoundDown`. slatedb promises some
-    /// one of them.
+    /// one of them. [`SequenceTracker::why_ts`] gives the same answer, and why it is that.
     ///
     /// # What a lookup costs
     ///
@@ -41,7 +41,7 @@ impl SequenceTracker {
 
     /// The sequence number of a second. Among equal seconds the first one kept answers with `RoundUp`, the last one with `RoundDown`: what stood as of a second is
     /// asked for with `RoundDown`. It costs what [`SequenceTracker::find_ts`] costs; [`SequenceTracker::find_seq_16`] and [`SequenceTracker::find_seq_each`] ask
-    /// many questions at once.
+    /// many questions at once, and [`SequenceTracker::why_seq`] tells why.
     pub fn find_seq(&self, ts: impl Into<Second>, opt: FindOption) -> Result<Option<Seq>, Error> {
         let found = done(calls::find_seq(self.state, &self.seqs, &self.secs, ts.into().0, opt.number()))?;
         Ok((found.a == 1).then_some(Seq(found.b)))

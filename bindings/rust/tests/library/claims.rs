@@ -1,9 +1,9 @@
-//! What the docs claim of storage and show of many questions, and where the claims end.
+//! What the docs claim of storage and show of many questions and of reasons, and where the claims end.
 use crate::run::Case;
 use crate::tables::{but_totals, kept, pair, table};
 use skutlaneb::FindOption::{RoundDown, RoundUp};
 use skutlaneb::Inserted::{Recorded, TooSoon, WentBack};
-use skutlaneb::{sys, Error, Second, Seq, SequenceTracker, Totals, TrackedSeq, TsSheet};
+use skutlaneb::{sys, Error, Reason, Second, Seq, SequenceTracker, Totals, TrackedSeq, TsSheet, Why};
 
 pub const CASES: &[Case] = &[
     ("at the default settings a strictly saved table comes back as it was but for its totals, also once it has dropped pairs", comes_back),
@@ -18,6 +18,7 @@ pub const CASES: &[Case] = &[
     ("a clone is the table with its last recorded second and its totals, in arrays of its own", clones),
     ("equal tables may answer the same offer differently", equal_but_other),
     ("questions asked at once are answered as the docs show", at_once),
+    ("why an answer is what it is, is told as the docs show", why),
 ];
 
 /// 8,200 offers, each as soon after the one before as the table's interval lets it, with a save and a restore before, at and after the halving.
@@ -172,4 +173,14 @@ fn at_once() {
     assert_eq!(sheet.answers[..sheet.used], [Some(Second(0)), Some(Second(60)), None]);
     let seconds = tracker.find_ts_each(&[Seq(99), Seq(101), Seq(165)], RoundUp).unwrap();
     assert_eq!(seconds, [Some(Second(0)), Some(Second(60)), None]);
+}
+
+fn why() {
+    let tracker = table(8192, 10, &[(100, 0), (164, 60)]);
+    let why = tracker.why_ts(150, RoundDown).unwrap();
+    assert_eq!(why, Why { reason: Reason::RoundedDown { below: 0, above: Some(1) }, answer: Some(Second(0)) });
+    assert_eq!(why.reason.to_string(), "rounded-down 0 1");
+    assert_eq!(tracker.why_ts(164, RoundDown).unwrap().reason, Reason::Exact { position: 1 });
+    assert_eq!(tracker.why_ts(99, RoundDown), Ok(Why { reason: Reason::BeforeFirst, answer: None }));
+    assert_eq!(tracker.why_ts(165, RoundUp), Ok(Why { reason: Reason::AfterLast, answer: None }));
 }

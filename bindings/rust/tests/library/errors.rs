@@ -5,7 +5,7 @@ use skutlaneb::sys::Answer;
 use skutlaneb::{Array, Error};
 
 pub const CASES: &[Case] = &[
-    ("each of the 29 numbers is an error of that number", numbers),
+    ("each of the 30 numbers is an error of that number", numbers),
     ("what a number also tells stands in the error", told),
     ("4 to 8 have a place, and no other", placed),
     ("each error has a sentence of its own", sentences),
@@ -19,7 +19,7 @@ fn answer(number: u32) -> Answer {
 
 /// The numbers of the list, which has gaps.
 fn listed() -> impl Iterator<Item = u32> {
-    (1..=27).chain([31, 35])
+    (1..=27).chain([31, 35, 36])
 }
 
 fn numbers() {
@@ -53,6 +53,7 @@ fn told() {
         (27, Error::DateOutside),
         (31, Error::TotalsFull),
         (35, Error::TooManyQuestions),
+        (36, Error::BadQuestion),
     ];
     for (number, error) in expected {
         assert_eq!(Error::of(&answer(number)), Some(error));
@@ -62,7 +63,7 @@ fn told() {
 }
 
 fn placed() {
-    for number in 1..=36 {
+    for number in 1..=37 {
         let place = Error::of(&answer(number)).and_then(|error| error.place());
         assert_eq!(place, (4..=8).contains(&number).then_some(Place { byte: 17, bit: 5 }));
     }
@@ -73,7 +74,7 @@ fn sentences() {
     assert!(all.iter().all(|sentence| sentence.contains(' ') && !sentence.ends_with('.')));
     all.sort();
     all.dedup();
-    assert_eq!(all.len(), 29);
+    assert_eq!(all.len(), 30);
     assert_eq!(Error::Version { byte: 2 }.to_string(), "the bytes start with version 2, and only version 1 is known");
     assert_eq!(Error::LengthsDiffer.to_string(), "the arrays or lists of one call differ in length");
     assert_eq!(Error::DateGrammar.to_string(), "the text is not a date-time of RFC 3339, such as 1970-01-01T00:00:00Z");
@@ -81,6 +82,8 @@ fn sentences() {
     assert_eq!(Error::DateOutside.to_string(), "the date, in UTC, is outside the years 0001 to 9999");
     assert_eq!(Error::TotalsFull.to_string(), "the table has counted 2^64-1 offers, and cannot count one more");
     assert_eq!(Error::TooManyQuestions.to_string(), "the sheet has more than sixteen questions");
+    assert_eq!(Error::InputTooLong.to_string(), "the input has more bytes than the program takes");
+    assert_eq!(Error::BadQuestion.to_string(), "the input does not begin with the line of a question");
 }
 
 fn where_it_stops() {
@@ -112,7 +115,7 @@ fn where_it_stops() {
 }
 
 fn unlisted() {
-    for number in (28..=30).chain(32..=34).chain([36, u32::MAX]) {
+    for number in (28..=30).chain(32..=34).chain([37, u32::MAX]) {
         let error = Error::of(&answer(number)).unwrap();
         assert_eq!((error, error.number()), (Error::Unlisted { number }, number));
         assert!(error.to_string().contains(&number.to_string()));

@@ -22,10 +22,11 @@ mod tables;
 mod times;
 mod totals;
 mod values;
+mod why;
 
 #[no_mangle]
 pub extern "C" fn main(_argc: i32, _argv: *const *const u8) -> i32 {
-    let tracker = [tables::CASES, pairs::CASES, questions::CASES, lists::CASES, reasons::CASES, totals::CASES, halving::CASES];
+    let tracker = [tables::CASES, pairs::CASES, questions::CASES, why::CASES, lists::CASES, reasons::CASES, totals::CASES, halving::CASES];
     let stored = [images::CASES, intervals::CASES, places::CASES, claims::CASES, runs::CASES];
     let others = [values::CASES, times::CASES, dates::CASES, errors::CASES, arrays::CASES, bits::CASES, raw::CASES, stack::CASES];
     run::run(&[tracker.concat(), stored.concat(), others.concat()].concat())

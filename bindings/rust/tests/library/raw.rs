@@ -1,6 +1,8 @@
 //! The library's functions as they are: layout, memory, states that no call returned.
 use crate::run::Case;
-use skutlaneb::sys::{self, Answer, SeqAnswer, SeqSheet, SeqSheetAnswer, State, TableAnswer, Tally, Totals, TsAnswer, TsSheet, TsSheetAnswer};
+use skutlaneb::sys::{
+    self, Answer, SeqAnswer, SeqSheet, SeqSheetAnswer, State, TableAnswer, Tally, Totals, TsAnswer, TsSheet, TsSheetAnswer, WhyAnswer,
+};
 use skutlaneb::{Second, Seq};
 use std::mem::{align_of, offset_of, size_of};
 use std::ptr::{null, null_mut};
@@ -8,8 +10,9 @@ use std::ptr::{null, null_mut};
 pub const CASES: &[Case] = &[
     ("the structs are laid out as in C", layout),
     ("the structs of questions are laid out as in C, and a sequence and a second as their numbers", question_layout),
+    ("the struct of reasons is laid out as in C", why_layout),
     ("a length of 0 needs no memory", no_memory),
-    ("nor does it in the calls with many questions", no_question_memory),
+    ("nor does it in the calls with many questions, and in those that tell why", no_question_memory),
     ("a state that does not fit its arrays is refused by 14", forged),
     ("a mark that is neither 0 nor 1 is refused by 14, by every call", neither),
     ("lists of different length are refused by 18, before the table", uneven),
@@ -38,6 +41,12 @@ fn question_layout() {
     assert_eq!((size_of::<Seq>(), align_of::<Seq>(), size_of::<Second>(), align_of::<Second>()), (8, align_of::<u64>(), 8, align_of::<i64>()));
 }
 
+fn why_layout() {
+    assert_eq!((size_of::<WhyAnswer>(), align_of::<WhyAnswer>(), offset_of!(WhyAnswer, answer)), (88, 8, 0));
+    assert_eq!((offset_of!(WhyAnswer, reason), offset_of!(WhyAnswer, has_below), offset_of!(WhyAnswer, has_above)), (48, 52, 56));
+    assert_eq!((offset_of!(WhyAnswer, position), offset_of!(WhyAnswer, below), offset_of!(WhyAnswer, above)), (64, 72, 80));
+}
+
 fn no_memory() {
     unsafe {
         let state = sys::skut_new().state;
@@ -64,12 +73,15 @@ fn no_question_memory() {
         assert_eq!(sys::skut_find_seq_16(state, null(), 0, null(), 0, seq, 0), SeqSheetAnswer { answer: refused, sheet: seq });
         assert_eq!(sys::skut_find_ts_each(state, null(), 0, null(), 0, null(), 0, null_mut(), 0, null_mut(), 0, 0), refused);
         assert_eq!(sys::skut_find_seq_each(state, null(), 0, null(), 0, null(), 0, null_mut(), 0, null_mut(), 0, 0), refused);
+        let nothing_told = WhyAnswer { answer: refused, ..WhyAnswer::default() };
+        assert_eq!(sys::skut_why_ts(state, null(), 0, null(), 0, 5, 0), nothing_told);
+        assert_eq!(sys::skut_why_seq(state, null(), 0, null(), 0, 50, 0), nothing_told);
         assert_eq!(sys::skut_find_ts_each(state, s, 8192, z, 8192, null(), 0, null_mut(), 0, null_mut(), 0, 0), Answer::default());
         assert_eq!(sys::skut_find_seq_each(state, s, 8192, z, 8192, null(), 0, null_mut(), 0, null_mut(), 0, 0), Answer::default());
     }
 }
 
-/// Asks one question by each of the calls with many, of a table of four places that is refused so. Neither a sheet nor a list is changed.
+/// Asks one question by each of the calls with many, and why, of a table of four places that is refused so. Neither a sheet nor a list is changed, and no reason told.
 fn refused_questions(state: State, seqs: &[u64; 4], secs: &[i64; 4], refused: Answer) {
     let ts = TsSheet { keys: [5; 16], answers: [TsAnswer { found: 7, second: -7 }; 16], used: 1 };
     let seq = SeqSheet { keys: [50; 16], answers: [SeqAnswer { found: 7, seq: 70 }; 16], used: 1 };
@@ -80,6 +92,9 @@ fn refused_questions(state: State, seqs: &[u64; 4], secs: &[i64; 4], refused: An
         assert_eq!(sys::skut_find_seq_16(state, s, 4, z, 4, seq, 0), SeqSheetAnswer { answer: refused, sheet: seq }, "{state:?}");
         assert_eq!(sys::skut_find_ts_each(state, s, 4, z, 4, &5, 1, &mut sec_to, 1, &mut mark, 1, 0), refused, "{state:?}");
         assert_eq!(sys::skut_find_seq_each(state, s, 4, z, 4, &50, 1, &mut seq_to, 1, &mut mark, 1, 0), refused, "{state:?}");
+        let nothing_told = WhyAnswer { answer: refused, ..WhyAnswer::default() };
+        assert_eq!(sys::skut_why_ts(state, s, 4, z, 4, 5, 0), nothing_told, "{state:?}");
+        assert_eq!(sys::skut_why_seq(state, s, 4, z, 4, 50, 1), nothing_told, "{state:?}");
     }
     assert_eq!((sec_to, seq_to, mark), (-7, 70, 7));
 }

@@ -9,6 +9,7 @@ use std::mem::size_of;
 pub const CASES: &[Case] = &[
     ("no call needs more stack than the header says", stack),
     ("nor does one that is refused for its interval, its offer, its questions or its date, or where bytes, bits or a list of offers stop", refused),
+    ("nor does one that tells why, whatever the reason, and where the table is refused", reasons),
 ];
 
 const HEADER: &str = include_str!("../../../c/skutlaneb.h");
@@ -90,6 +91,8 @@ fn calls(l: &mut Lent) -> Vec<Call> {
         ("skut_extend_from", sys::skut_extend_from as *const (), extended),
         ("skut_find_ts", sys::skut_find_ts as *const (), table(&[3, 0])),
         ("skut_find_seq", sys::skut_find_seq as *const (), table(&[3, 0])),
+        ("skut_why_ts", sys::skut_why_ts as *const (), table(&[3, 0])),
+        ("skut_why_seq", sys::skut_why_seq as *const (), table(&[3, 0])),
         ("skut_save", sys::skut_save as *const (), table(&[b, room])),
         ("skut_save_strict", sys::skut_save_strict as *const (), table(&[b, room])),
         ("skut_restore", sys::skut_restore as *const (), words(&[b, room, s, n, z, n])),
@@ -236,4 +239,39 @@ fn refused() {
         assert_eq!(answered, *number, "{}", call.0);
         assert!(used <= most);
     }
+}
+
+/// Each reason in a full table and in one that is searched by a loop; an empty table; and bad ones.
+fn reasons() {
+    let mut most_used = [0; 2];
+    let mut asked = |number: u32, lent: &Lent, state: State, key: u64, round: u64| {
+        let words = [lent.seqs.as_ptr() as u64, PAIRS as u64, lent.secs.as_ptr() as u64, PAIRS as u64, key, round];
+        let args = || std::iter::once(Table(state)).chain(words.map(Word)).collect();
+        let calls = [("skut_why_ts", sys::skut_why_ts as *const (), args()), ("skut_why_seq", sys::skut_why_seq as *const (), args())];
+        for (call, most_used) in calls.iter().zip(&mut most_used) {
+            let ((answered, used), most) = (stack_of(call), declared(call.0));
+            assert_eq!(answered, number, "{}", call.0);
+            assert!(used <= most, "{}, {key}, round {round}: {used} of {most} bytes of stack", call.0);
+            *most_used = used.max(*most_used);
+        }
+    };
+    let mut lent = full();
+    lent.seqs.iter_mut().for_each(|seq| *seq += 2); // so that something is below the first
+    let (few, none, neither) = (State { count: 9, ..lent.state }, State { count: 0, has_last: 0, ..lent.state }, State { has_last: 2, ..lent.state });
+    // Keys below the first, equal to one, between two, and above the last. The greatest is a second below 0.
+    for key in [0, 1, 2, 3, 13, 14, 81_920, 1 << 40, u64::MAX] {
+        for round in [0, 1] {
+            for (number, state) in [(0, lent.state), (0, few), (0, none), (14, neither)] {
+                asked(number, &lent, state, key, round);
+            }
+        }
+    }
+    for (number, at, seq, sec) in [(11, PAIRS - 1, 0, 8190), (12, PAIRS - 1, 1 << 40, 0), (13, 0, 0, i64::MIN)] {
+        let mut bad = full();
+        (bad.seqs[at], bad.secs[at]) = (seq, sec);
+        for round in [0, 1] {
+            asked(number, &bad, bad.state, 3, round);
+        }
+    }
+    println!("   skut_why_ts, skut_why_seq, whatever is asked: at most {} and {} bytes of stack", most_used[0], most_used[1]);
 }
