@@ -33,6 +33,7 @@ use Rattle.cases.specs.Cases.{Cases}
 use Rattle.cases.proofs.DateCases.{date-cases}
 use Rattle.cases.proofs.HalvingCases.{halving-cases}
 use Rattle.cases.proofs.QuestionCases.{question-cases}
+use Rattle.cases.proofs.WhyCases.{why-cases}
 
 -- the dates of P5
 fifth-dated : AllDated dateText (pos 0 ∷ pos 60 ∷ [])
@@ -85,4 +86,5 @@ cases = record {
   dates = date-cases;
   halving = halving-cases;
   questions = question-cases;
+  reasons = why-cases;
 }

@@ -3,4 +3,5 @@ mod Example
 mod DateCases
 mod HalvingCases
 mod QuestionCases
+mod WhyCases
 pub mod Cases

@@ -40,6 +40,7 @@ use Rattle.cases.specs.Given.{second, seqNo, pair, pairsIn, buffer, lent
 use Rattle.cases.specs.DateCases.{DateCases}
 use Rattle.cases.specs.HalvingCases.{HalvingCases}
 use Rattle.cases.specs.QuestionCases.{QuestionCases}
+use Rattle.cases.specs.WhyCases.{WhyCases}
 
 -- ---- what must come out: kinds of cases that are more than one equation, or stand often
 
@@ -245,7 +246,8 @@ pub record Cases : Type 0 where
       × (readRule (0xFF ∷ []) (record { byte = 0; bit = 3 }) 65 ≡ refused (23 ∷ []))
   -- per array 4, 10, 5: a count of 2 for two arrays of one place, with no first value after it, gives 10; with two places, 5, at byte 9
   pub order : DecodeTells 1 (begun 2) (refused (10 ∷ 0 ∷ [])) × DecodeTells 2 (begun 2) (refused (5 ∷ 0 ∷ 9 ∷ 0 ∷ []))
-  -- dates, halving, and many questions: tables of their own
+  -- dates, halving, many questions, and reasons: tables of their own
   pub dates : DateCases
   pub halving : HalvingCases
   pub questions : QuestionCases
+  pub reasons : WhyCases

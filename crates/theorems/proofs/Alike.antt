@@ -23,6 +23,8 @@ use Rattle.lookup.specs.Find.{findTs, findSeq}
 use Rattle.lookup.specs.Laws as lookups
 use Rattle.lookup.specs.declared.FindOption.{FindOption}
 use Rattle.lookup.proofs.Laws.{kept-ts, kept-seq}
+use Rattle.explaining.specs.Why.{whyTs, whySeq}
+use Rattle.explaining.proofs.Laws.{kept-why-ts, kept-why-seq}
 use Rattle.sheets.proofs.Alike as sheets
 use Rattle.question_lists.proofs.Alike as lists
 use Rattle.offers.specs.Whole.{Table, whole, checkIn, leaving}
@@ -75,6 +77,16 @@ module _ (Still So : Table → Table → Type 0) (keeps : KeptUp Still) (so : (w
       kept-seq (w .state) (w .seqs) (v .seqs) (w .secs) (v .secs) x opt same-places
       ∙ by-rest (λ (u : SequenceTracker). findSeq (w .state) (v .seqs) (v .secs) x opt ≡ findSeq u (v .seqs) (v .secs) x opt) (w .state) (v .state) (a .same-rest) (rw same-check)
 
+  same-why-ts : (x : Seq) (opt : FindOption) → whyTs (w .state) (w .seqs) (w .secs) x opt ≡ whyTs (v .state) (v .seqs) (v .secs) x opt
+  same-why-ts x opt =
+      kept-why-ts (w .state) (w .seqs) (v .seqs) (w .secs) (v .secs) x opt same-places
+      ∙ by-rest (λ (u : SequenceTracker). whyTs (w .state) (v .seqs) (v .secs) x opt ≡ whyTs u (v .seqs) (v .secs) x opt) (w .state) (v .state) (a .same-rest) (rw same-check)
+
+  same-why-seq : (x : Second) (opt : FindOption) → whySeq (w .state) (w .seqs) (w .secs) x opt ≡ whySeq (v .state) (v .seqs) (v .secs) x opt
+  same-why-seq x opt =
+      kept-why-seq (w .state) (w .seqs) (v .seqs) (w .secs) (v .secs) x opt same-places
+      ∙ by-rest (λ (u : SequenceTracker). whySeq (w .state) (v .seqs) (v .secs) x opt ≡ whySeq u (v .seqs) (v .secs) x opt) (w .state) (v .state) (a .same-rest) (rw same-check)
+
   pub answer-alike : AnswerAlike So m w v
   answer-alike = record {
     by-check = g ∙ sym g′;
@@ -85,6 +97,8 @@ module _ (Still So : Table → Table → Type 0) (keeps : KeptUp Still) (so : (w
     as-other = extend-by-alike w v g g′ a;
     by-seq = same-ts;
     by-second = same-seq;
+    by-why-seq = same-why-ts;
+    by-why-second = same-why-seq;
     by-asked = asked-alike w v (g ∙ sym g′) same-ts same-seq;
     by-strict = λ out. rw (g, g′, a .same-seqs, a .same-secs) (refl, refl);
     by-save = λ out. rw (g, g′, a .same-seqs, a .same-secs) (refl, refl);
@@ -142,6 +156,8 @@ module _ (m : ℕ) (t : SequenceTracker) (n : Totals) (seqs : List ℕ) (secs : 
         as-other = λ other. rw (h, h′);
         by-seq = λ x opt. rw (h, h′);
         by-second = λ x opt. rw (h, h′);
+        by-why-seq = λ x opt. rw (h, h′);
+        by-why-second = λ x opt. rw (h, h′);
         by-asked = asked-alike own other-totals fits (λ x opt. rw (h, h′)) (λ x opt. rw (h, h′));
         by-strict = λ out. rw (h, h′) (refl, refl);
         by-save = λ out. rw (h, h′) (refl, refl);

@@ -16,6 +16,7 @@ use Rattle.tracker.specs.declared.Second.{Second}
 use Rattle.tracker.specs.declared.TrackedSeq.{TrackedSeq}
 use Rattle.lookup.specs.Find.{findTs, findSeq}
 use Rattle.lookup.specs.declared.FindOption.{FindOption}
+use Rattle.explaining.specs.Why.{whyTs, whySeq}
 use Rattle.questions.specs.declared.Asked.{Asked}
 use Rattle.sheets.specs.Sheet.{FindsTs16, FindsSeq16}
 use Rattle.sheets.specs.declared.TsSheet.{TsSheet}
@@ -85,6 +86,9 @@ pub record AnswerAlike (So : Table → Table → Type 0) (m : ℕ) (w v : Table)
   -- each lookup
   pub by-seq : (x : Seq) (opt : FindOption) → findTs (w .state) (w .seqs) (w .secs) x opt ≡ findTs (v .state) (v .seqs) (v .secs) x opt
   pub by-second : (x : Second) (opt : FindOption) → findSeq (w .state) (w .seqs) (w .secs) x opt ≡ findSeq (v .state) (v .seqs) (v .secs) x opt
+  -- each lookup with its reason
+  pub by-why-seq : (x : Seq) (opt : FindOption) → whyTs (w .state) (w .seqs) (w .secs) x opt ≡ whyTs (v .state) (v .seqs) (v .secs) x opt
+  pub by-why-second : (x : Second) (opt : FindOption) → whySeq (w .state) (w .seqs) (w .secs) x opt ≡ whySeq (v .state) (v .seqs) (v .secs) x opt
   -- each sheet and each list of questions
   pub by-asked : (opt : FindOption) → AskedAlike w v opt
   -- each save, strict or not, and the buffer after it

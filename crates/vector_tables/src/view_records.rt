@@ -1,4 +1,6 @@
 // Records that only look at the standing table: S, H, V, F and K. Each answers whether the table agrees.
+use explaining::WhySeq;
+use explaining::WhyTs;
 use lookup::FindOption;
 use lookup::FoundSeq;
 use lookup::FoundTs;
@@ -158,14 +160,47 @@ fn seq_of_many_so(b: &[u8], table: SequenceTracker, seqs: &[u64], secs: &[i64]) 
     answer_so(b, by_sheet.found, seq.0) & answer_so(b, wide(found[0]), answers[0])
 }
 
-// Asked alone, on a sheet and in a list.
+// Whether the answer under its reason is so, by sequence.
+fn second_with_reason_so(b: &[u8], table: SequenceTracker, seqs: &[u64], secs: &[i64]) -> bool {
+    match explaining::why_ts(table, seqs, secs, Seq(u64_at(b, 0)), way_of(u8_at(b, 8))) {
+        WhyTs::Answered(_, s) => {
+            let x = s.0;
+            partner_so(b, signed::as_unsigned(x))
+        }
+        WhyTs::Nothing(_) => u8_at(b, 9) == 0,
+        WhyTs::Refused(_) => false,
+    }
+}
+
+// The same by second.
+fn seq_with_reason_so(b: &[u8], table: SequenceTracker, seqs: &[u64], secs: &[i64]) -> bool {
+    match explaining::why_seq(table, seqs, secs, Second(i64_at(b, 0)), way_of(u8_at(b, 8))) {
+        WhySeq::Answered(_, q) => {
+            let x = q.0;
+            partner_so(b, x)
+        }
+        WhySeq::Nothing(_) => u8_at(b, 9) == 0,
+        WhySeq::Refused(_) => false,
+    }
+}
+
+// Asked otherwise than alone: on a sheet, in a list and with its reason.
+fn second_again_so(b: &[u8], table: SequenceTracker, seqs: &[u64], secs: &[i64]) -> bool {
+    second_of_many_so(b, table, seqs, secs) & second_with_reason_so(b, table, seqs, secs)
+}
+
+fn seq_again_so(b: &[u8], table: SequenceTracker, seqs: &[u64], secs: &[i64]) -> bool {
+    seq_of_many_so(b, table, seqs, secs) & seq_with_reason_so(b, table, seqs, secs)
+}
+
+// Asked alone, and otherwise.
 pub fn second_so(b: &[u8], table: SequenceTracker, seqs: &[u64], secs: &[i64]) -> bool {
     match lookup::find_ts(table, seqs, secs, Seq(u64_at(b, 0)), way_of(u8_at(b, 8))) {
         FoundTs::At(s) => {
             let x = s.0;
-            partner_so(b, signed::as_unsigned(x)) & second_of_many_so(b, table, seqs, secs)
+            partner_so(b, signed::as_unsigned(x)) & second_again_so(b, table, seqs, secs)
         }
-        FoundTs::Nothing => (u8_at(b, 9) == 0) & second_of_many_so(b, table, seqs, secs),
+        FoundTs::Nothing => (u8_at(b, 9) == 0) & second_again_so(b, table, seqs, secs),
         FoundTs::Refused(_) => false,
     }
 }
@@ -174,9 +209,9 @@ pub fn seq_so(b: &[u8], table: SequenceTracker, seqs: &[u64], secs: &[i64]) -> b
     match lookup::find_seq(table, seqs, secs, Second(i64_at(b, 0)), way_of(u8_at(b, 8))) {
         FoundSeq::At(s) => {
             let x = s.0;
-            partner_so(b, x) & seq_of_many_so(b, table, seqs, secs)
+            partner_so(b, x) & seq_again_so(b, table, seqs, secs)
         }
-        FoundSeq::Nothing => (u8_at(b, 9) == 0) & seq_of_many_so(b, table, seqs, secs),
+        FoundSeq::Nothing => (u8_at(b, 9) == 0) & seq_again_so(b, table, seqs, secs),
         FoundSeq::Refused(_) => false,
     }
 }
