@@ -33,6 +33,7 @@ use Rattle.settling.specs.Settle.{lastOf}
 use Rattle.restoring.specs.Restore.{readTable, judged, tooShort, readInto, RestoresAt}
 use Rattle.restoring.proofs.Loading.{places}
 use Rattle.restoring.specs.declared.Restored.the-variants as restored
+use Rattle.theorems.specs.Restored.{RestoredGood}
 use Rattle.theorems.specs.Alike.{keptIn}
 use Rattle.theorems.specs.Run.{Lent}
 use Rattle.theorems.proofs.Small.{seqs-small}
@@ -115,3 +116,6 @@ module _ (interval : ℕ) (bytes seqs seqs′ : List ℕ) (secs secs′ : List �
       let one : take n (over (p .seqs) seqs) ≡ p .seqs = take-at (p .seqs) _ n refl in
       let two : take n (over (p .secs) secs) ≡ p .secs = take-at (p .secs) _ n (sym (image-counts (λ m. leb m 8192) bytes e .0)) in
       λ i. record { seqs = one i; secs = two i })
+
+pub restored-good : RestoredGood
+restored-good interval bytes seqs seqs′ secs secs′ t h = restored-sound interval bytes seqs seqs′ secs secs′ t h .good
