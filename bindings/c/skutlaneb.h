@@ -133,7 +133,7 @@ struct skut_seq_sheet_answer {
 /* A lookup's answer, and why it is that. `answer` is what skut_find_ts or skut_find_seq answers to the same question, in all of its numbers. `reason` is a number
  * of the list SKUT_WHY_. `position` is that of the pair that answers, with the reasons 1, 2 and 3. Where no key equals the one asked for, and one answers (2 and 3),
  * `below` is the position of the last smaller key and `above` that of the first greater one; the one that the rounding takes is always there, and answers, and the
- * other is there unless the one asked for is below the first key or above the last. `has_below` and `has_above` are 1 where there is such a position, and else 0.
+ * other is there unless the one asked for is below the first key or above the last. `has_below` and `has_above` are 1 where there is such a position, and else 0; with every other reason both are 0.
  * Positions count the kept pairs from 0; one that is not told is 0. Refused, all but `answer` is 0. */
 struct skut_why {
     struct skut_answer answer;

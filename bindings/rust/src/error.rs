@@ -117,7 +117,7 @@ pub enum Error {
 }
 
 impl Error {
-    /// The number in the list of refusals in docs/RULES.md.
+    /// The number in the list of refusals in docs/RULES.md; of `Unlisted`, the number that the library answered, a refusal's or a reason's.
     pub fn number(&self) -> u32 {
         match *self {
             Error::Empty => 1,

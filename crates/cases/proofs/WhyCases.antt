@@ -1,5 +1,6 @@
 -- The cases of reasons, by computation; and what does not hold.
-use mathlib.Core.Path.{refl}
+use mathlib.Core.Path.{_≡_, refl}
+use Prim.Native.Nat.{ℕ}
 use mathlib.Core.Bool.{false≢true}
 use native.Mathlib.Omega.{arith}
 use Rattle.order.specs.First.{firstFrom, lastOr}
@@ -31,6 +32,7 @@ why-cases = record {
     λ h. let e = h .1 .adjacent in omega arith,
     λ h. let e = h .1 .first-one in omega arith,
     λ h. false≢true (h .1 .key-below),
+    λ h. let e = h .0 in let z : _≡_ {A = ℕ} 0 1 = cc in omega arith,
   );
   refusal = (refl, refl);
   prints = (refl, refl, refl, refl, refl, refl, refl);

@@ -2,7 +2,7 @@
 use Prim.Native.Nat.{ℕ}
 use Prim.Native.String.{String}
 use mathlib.Core.Path.{_≡_}
-use mathlib.Core.List.{List, [], _∷_, _++_}
+use mathlib.Core.List.{[], _∷_, _++_}
 use lib.Dec.{ltb}
 use lib.ListN.{replicate, take}
 use Rattle.told.specs.Told.{gave, refused}
@@ -55,12 +55,13 @@ pub record WhyCases : Type 0 where
       SeqWhy equalSeconds 20 RoundUp (Exact 1) (partner (seqNo 2))
       × SeqWhy equalSeconds 20 RoundDown (Exact 3) (partner (seqNo 4))
       × SeqWhy equalSeconds 21 RoundDown (RoundedDown 3 (At 4)) (partner (seqNo 4))
-  -- what does not hold of P8's table and sequence 2 up: exact at a neighbour; neighbours with a kept pair between them; one neighbour where there are two; after the last
+  -- what does not hold of P8's table and sequence 2 up: exact at a neighbour; neighbours with a kept pair between them; one neighbour where there are two; after the last; nor of sequence 0 up: before the first
   pub excluded :
       (Holds ltb 0 (eighth .seqs) 3 2 RoundUp (Exact 1) → ⊥)
       × (Holds ltb 0 (eighth .seqs) 3 2 RoundUp (RoundedUp (At 0) 2) → ⊥)
       × (Holds ltb 0 (eighth .seqs) 3 2 RoundUp (RoundedUp Missing 1) → ⊥)
       × (Holds ltb 0 (eighth .seqs) 3 2 RoundUp AfterLast → ⊥)
+      × (Holds ltb 0 (eighth .seqs) 3 0 RoundUp BeforeFirst → ⊥)
   -- a table whose arrays are not lent is refused with 14
   pub refusal : (whyTs unlent [] [] (seqNo 2) RoundUp ≡ refused (14 ∷ [])) × (whySeq unlent [] [] (second 2) RoundDown ≡ refused (14 ∷ []))
   -- the program, with P5's image
@@ -79,7 +80,7 @@ pub record WhyCases : Type 0 where
       × Prints "seq 18446744073709551615 down\n" "rounded-down 1 none 60\n"
       × Prints "time -9223372036854775808 up\n" "rounded-up none 0 100\n"
       × Prints "time 9223372036854775807 up\n" "after-last none\n"
-  -- 36: no LF, CR before it, a plus, two spaces, a capital, no number, a minus before a sequence, a number out of range
+  -- 36: no LF, CR before it, a plus, two spaces, a space at the end, a capital, no number, a minus before a sequence, a number out of range
   pub lines :
       Prints "seq 100 up" "refused 36\n"
       × Prints "seq 100 up\r\n" "refused 36\n"

@@ -1,15 +1,14 @@
 -- The facts that a reason names hold exactly of the reason that the rule gives.
-use mathlib.Core.Path.{_≡_, refl, sym, _∙_, ap, subst}
+use mathlib.Core.Path.{_≡_, refl, _∙_, ap}
 use mathlib.Core.Logic.{⊎-elim}
 use mathlib.Core.Bool.{Bool, true, false, cond}
 use mathlib.Core.List.{List}
-use Prim.Native.Nat.{ℕ, zero, suc, _-_, _≤_, _<_}
+use Prim.Native.Nat.{ℕ, _-_, _≤_, _<_}
 use native.Mathlib.Nat.{le-refl, pos-of-ne-zero}
 use native.Mathlib.Omega.{arith}
 use borrow.Author.Tests.{lt-ltb, le-ltb, ltb-true, ltb-false, eq-eqb, eqb-true, eqb-false, ne-eqb}
 use lib.Arith.{lt-of-le-ne}
 use lib.Dec.{ltb, eqb}
-use lib.ListN.{getD}
 use Rattle.order.specs.First.{firstFrom, lastOr, first, final}
 use Rattle.order.specs.Order.{drops}
 use Rattle.order.specs.Inner.{NoneBelow}
@@ -17,19 +16,19 @@ use Rattle.order.proofs.Bools.{other, true-false, below-or}
 use Rattle.order.proofs.First.{first-is, first-holds, first-least}
 use Rattle.order.proofs.Last.{final-is, final-holds, final-most, final-out}
 use Rattle.order.proofs.Order.{Order}
-use Rattle.search.specs.Keys.{smaller, greater}
-use Rattle.lookup.specs.Find.{Partner, partner, nothing, standing, place}
-use Rattle.lookup.specs.Laws.{equal, inWords}
+use Rattle.search.specs.Keys.{greater}
+use Rattle.lookup.specs.Find.{partner, nothing, standing, place}
+use Rattle.lookup.specs.Laws.{equal}
 use Rattle.lookup.specs.declared.FindOption.{FindOption}
 use Rattle.lookup.specs.declared.FindOption.the-variants.{RoundUp, RoundDown}
 use Rattle.lookup.proofs.Place.{in-words}
 use Rattle.explaining.specs.Reason.{before, below, beside, someEqual, reasonOf}
-use Rattle.explaining.specs.Laws.{EqualAt, Between, BelowFirst, AboveLast, Holds, Parts, AllKeys, answerBy}
+use Rattle.explaining.specs.Laws.{EqualAt, Between, Holds, Parts, AllKeys, answerBy}
 use Rattle.explaining.specs.Inner.{answering}
 use Rattle.explaining.specs.declared.Neighbour.the-variants.{At, Missing}
 use Rattle.explaining.specs.declared.Reason.{Reason}
 use Rattle.explaining.specs.declared.Reason.the-variants.{Exact, RoundedUp, RoundedDown, BeforeFirst, AfterLast, Empty}
-use Rattle.explaining.proofs.Parts.{some-keys, equal-reason, parts-reason, parts-place, parts-between, parts-first, parts-last, parted}
+use Rattle.explaining.proofs.Parts.{equal-reason, parts-reason, parts-place, parts-between, parts-first, parts-last, parted}
 
 module _ {K : Type 0} (lt : K → K → Bool) (O : Order lt) (d : K) (keys : List K) (n : ℕ) (x : K) (sorted : NoneBelow (drops lt d keys) n) where
   -- the position that answers is, of the equal keys, the one that the rounding takes

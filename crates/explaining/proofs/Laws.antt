@@ -1,12 +1,12 @@
 -- The laws of specs/Laws.antt.
 use mathlib.Core.Path.{_≡_, refl, sym, _∙_, ap, subst}
 use mathlib.Core.Logic.{_↔_}
-use mathlib.Core.Bool.{Bool, not, cond}
+use mathlib.Core.Bool.{Bool}
 use mathlib.Core.List.{List}
-use Prim.Native.Nat.{ℕ, _<_}
-use lib.Dec.{ltb, eqb}
+use Prim.Native.Nat.{ℕ}
+use lib.Dec.{ltb}
 use lib.IntN.{pos}
-use lib.ListN.{take, getD}
+use lib.ListN.{take}
 use lib.Signed.{ltZ}
 use Rattle.told.specs.Told.{Told, gave, refused, ifGood}
 use Rattle.told.proofs.Unique.{given-not-refused, same-list, same-gift}
@@ -24,12 +24,11 @@ use Rattle.lookup.specs.Find.{Partner, standing, place, secondAt, seqAt}
 use Rattle.lookup.specs.Laws.{equal}
 use Rattle.lookup.specs.declared.FindOption.{FindOption}
 use Rattle.lookup.proofs.Laws.{place-same, kept-ts, kept-seq}
-use Rattle.explaining.specs.Reason.{beside, reasonOf}
+use Rattle.explaining.specs.Reason.{reasonOf}
 use Rattle.explaining.specs.Why.{Why, because}
 use Rattle.explaining.specs.Inner.{answering}
 use Rattle.explaining.specs.Laws.{Holds, Explains, ExplainsTs, ExplainsSeq, KeptWhyTs, KeptWhySeq}
 use Rattle.explaining.specs.declared.Reason.{Reason}
-use Rattle.explaining.specs.declared.Reason.the-variants.{Exact, Empty}
 use Rattle.explaining.proofs.Facts.{holds-is, is-holds, all-stand, answering-place, stands-by}
 
 module _ {A : Type 0} (R : Reason) (S : Partner A) where

@@ -3,16 +3,16 @@ use mathlib.Core.Path.{_≡_, refl, sym, _∙_}
 use mathlib.Core.Logic.{⊎-elim}
 use mathlib.Core.Bool.{Bool, true, false, not, cond, and-false}
 use mathlib.Core.List.{List}
-use Prim.Native.Nat.{ℕ, zero, suc, _-_, _≤_, _<_}
+use Prim.Native.Nat.{ℕ, _-_, _≤_, _<_}
 use native.Mathlib.Nat.{le-refl, pos-of-ne-zero}
 use native.Mathlib.Omega.{arith}
 use borrow.Author.Tests.{lt-ltb, le-ltb, ltb-false, eqb-true, eqb-false, ne-eqb}
-use lib.Dec.{ltb, eqb}
+use lib.Dec.{eqb}
 use lib.ListN.{getD}
-use Rattle.order.specs.First.{firstFrom, lastOr, first}
+use Rattle.order.specs.First.{first}
 use Rattle.order.specs.Order.{drops}
 use Rattle.order.specs.Inner.{NoneBelow}
-use Rattle.order.proofs.Bools.{below-or, true-false}
+use Rattle.order.proofs.Bools.{below-or}
 use Rattle.order.proofs.First.{first-is, first-none, first-within, first-holds, first-least, first-under, first-out}
 use Rattle.order.proofs.Last.{final-is, final-none}
 use Rattle.order.proofs.Order.{Order, rises}

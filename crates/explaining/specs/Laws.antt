@@ -22,7 +22,7 @@ use Rattle.explaining.specs.declared.Neighbour.the-variants.{At, Missing
 use Rattle.explaining.specs.declared.Reason.{Reason}
 use Rattle.explaining.specs.declared.Reason.the-variants.{Exact, RoundedUp, RoundedDown, BeforeFirst, AfterLast, Empty}
 
--- of two positions the one that the rounding takes among equal keys comes to p: RoundUp takes the lower, RoundDown the higher
+-- p is, of two positions of equal keys, the one that the rounding takes: the lower with RoundUp, the higher with RoundDown
 abbrev pub Outermost : FindOption → ℕ → ℕ → Type 0
 Outermost RoundUp p j = p ≤ j
 Outermost RoundDown p j = j ≤ p
@@ -70,7 +70,7 @@ module _ {K : Type 0} (lt : K → K → Bool) (d : K) (keys : List K) (n : ℕ) 
     pub under : (j : ℕ) → j < p → smaller lt d keys x j ≡ true
     pub over : (j : ℕ) → p ≤ j → j < n → greater lt d keys x j ≡ true
 
-  -- how all keys stand under a reason
+  -- how all keys stand under a reason; of exact, only the one named
   abbrev pub AllKeys : Reason → Type 0
   AllKeys (Exact p) = equal lt d keys x p ≡ true
   AllKeys (RoundedUp below above) = Parts above

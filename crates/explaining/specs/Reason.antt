@@ -1,5 +1,5 @@
 -- Why a question is answered as it is (docs/RULES.md, "Why this answer"): the reason, with the positions that it names.
-use Prim.Native.Nat.{ℕ, zero, suc, _-_}
+use Prim.Native.Nat.{ℕ, _-_}
 use mathlib.Core.Bool.{Bool, cond}
 use mathlib.Core.List.{List}
 use lib.Dec.{ltb, eqb}

@@ -1,6 +1,5 @@
 // The reason in a table that is checked, and the position that answers under it.
 ghost use mathlib.Core.Path.{_≡_};
-ghost use Prim.Native.Nat.{_≤_};
 ghost use Rattle.explaining.specs.Reason as rules;
 ghost use Rattle.explaining.specs.Inner as own;
 use crate::Neighbour;

@@ -1,4 +1,4 @@
--- The text that `listing` and `listing_dates` print, as bytes (docs/RULES.md, "The listing").
+-- The text that `listing` and `listing_dates` print, as bytes (docs/RULES.md, "The listing"); `why` prints its refusals so, too.
 use Prim.Native.Nat.{ℕ, zero, suc}
 use mathlib.Core.List.{List, [], _++_}
 use lib.IntN.{ℤ, pos}

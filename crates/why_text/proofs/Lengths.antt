@@ -1,21 +1,16 @@
 -- How long the texts are. Assumes nothing.
-use Prim.Native.Nat.{ℕ, _+_, _≤_}
+use Prim.Native.Nat.{ℕ, _≤_}
 use native.Mathlib.Omega.{arith}
-use mathlib.Core.Bool.{Bool, true, false, cond}
-use mathlib.Core.List.{List, _++_}
+use mathlib.Core.List.{List}
 use lib.IntN.{ℤ}
-use lib.Dec.{ltb}
 use lib.ListN.{length, length-append}
 use Rattle.told.specs.Told.{Told, gave, refused}
 use Rattle.text.specs.Text.{decimal, signedDecimal}
 use Rattle.text.proofs.Numbers.{decimal-length, signed-length}
-use Rattle.gorilla.specs.Parser.{Read, read}
-use Rattle.gorilla.specs.Parser as parser
 use Rattle.report.specs.Listing.{numberOf}
 use Rattle.report.proofs.Answers.{refused-length}
 use Rattle.tracker.specs.declared.SequenceTracker.{SequenceTracker}
 use Rattle.lookup.specs.Find.{Partner, partner, nothing}
-use Rattle.question_lines.specs.Grammar.{question}
 use Rattle.question_lines.specs.declared.Question.{Question}
 use Rattle.question_lines.specs.declared.Question.the-variants.{BySeq, ByTime}
 use Rattle.explaining.specs.Why.{Why, whyTs, whySeq}
@@ -23,8 +18,8 @@ use Rattle.explaining.specs.declared.Neighbour.{Neighbour}
 use Rattle.explaining.specs.declared.Neighbour.the-variants.{At, Missing}
 use Rattle.explaining.specs.declared.Reason.{Reason}
 use Rattle.explaining.specs.declared.Reason.the-variants.{Exact, RoundedUp, RoundedDown, BeforeFirst, AfterLast, Empty}
-use Rattle.why_text.specs.Words.{neighbourText, reasonText, answerText, whyLine}
-use Rattle.why_text.specs.Text.{toldText, askedText, restoredText, restoredFrom, seqsFrom, secsFrom, imageText, lineText, whyText}
+use Rattle.why_text.specs.Words.{neighbourText, reasonText, answerText}
+use Rattle.why_text.specs.Text.{toldText, askedText, restoredText, restoredFrom, seqsFrom, secsFrom, imageText}
 
 pub neighbour-length : (p : Neighbour) → length (neighbourText p) ≤ 20
 neighbour-length (At p) = decimal-length p

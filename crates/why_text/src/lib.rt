@@ -22,7 +22,7 @@ use tracker::SequenceTracker;
 // The most bytes that are read as a question's line and an image.
 pub const MOST_INPUT: usize = 65536;
 
-// Room for every text: 12 bytes of a reason's word and three numbers with spaces, at most 78 in all.
+// Room for every text: a reason's word and three numbers with spaces, at most 77 in all.
 pub const TEXT_ROOM: usize = 128;
 
 // The question asked of a table.

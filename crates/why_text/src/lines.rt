@@ -2,7 +2,6 @@
 ghost use Prim.Native.Nat.{_+_, _≤_};
 ghost use mathlib.Core.List.{_++_};
 ghost use lib.ListN.{length};
-ghost use Rattle.lookup.specs.Find.{partner, nothing};
 ghost use Rattle.text.specs.Ascii.{ascii};
 ghost use Rattle.text.specs.Inner.{Put};
 ghost use Rattle.text.specs.Text.{decimal, signedDecimal};

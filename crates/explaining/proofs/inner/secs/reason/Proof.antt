@@ -3,7 +3,7 @@ use borrow.Author.Tests.{eq-eqb}
 use native.Mathlib.Nat.{pos-of-ne-zero}
 use native.Mathlib.Omega.{arith}
 use mathlib.Core.Path.{_≡_, sym, _∙_, ap}
-use mathlib.Core.Bool.{Bool, not}
+use mathlib.Core.Bool.{not}
 use Prim.Native.Nat.{_<_}
 use lib.Arith.{lt-of-le-ne}
 use lib.IntN.{pos}
@@ -13,7 +13,7 @@ use mir.Syntax.{w64}
 use mir.Val.{toZ, ofZ}
 use Rattle.order.proofs.First.{first-within}
 use Rattle.order.proofs.Order.{int-order, round}
-use Rattle.search.specs.Keys.{smaller, firstNotBelow, greater}
+use Rattle.search.specs.Keys.{smaller, firstNotBelow}
 use Rattle.explaining.specs.Reason.{reasonOf, beside}
 use Rattle.explaining.specs.Laws.{Parts}
 use Rattle.explaining.specs.declared.Reason.the-variants.{Exact}
