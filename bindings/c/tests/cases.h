@@ -64,6 +64,17 @@ struct skut_state uncounted(struct skut_state state);
 void hold(uint64_t *seqs, int64_t *secs);
 int held_from(size_t place, const uint64_t *seqs, const int64_t *secs);
 
+/* A table with its name and its arrays, and what a call takes of one that `table` points to. */
+struct table {
+    const char *name;
+    struct skut_state state;
+    const uint64_t *seqs;
+    const int64_t *secs;
+    size_t places;
+};
+
+#define TABLE table->state, table->seqs, table->places, table->secs, table->places
+
 void null_cases(void);
 void refused_cases(void);
 void claim_cases(void);

@@ -11,16 +11,6 @@
 
 #define LONGEST 1000
 
-struct table {
-    const char *name;
-    struct skut_state state;
-    const uint64_t *seqs;
-    const int64_t *secs;
-    size_t places;
-};
-
-#define TABLE table->state, table->seqs, table->places, table->secs, table->places
-
 static uint64_t full_seqs[PLACES];
 static int64_t full_secs[PLACES];
 

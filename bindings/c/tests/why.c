@@ -7,16 +7,6 @@
 #define TS "skut_why_ts"
 #define SEQ "skut_why_seq"
 
-struct table {
-    const char *name;
-    struct skut_state state;
-    const uint64_t *seqs;
-    const int64_t *secs;
-    size_t places;
-};
-
-#define TABLE table->state, table->seqs, table->places, table->secs, table->places
-
 /* What is told, by the reason. A partner is a second by its 64 bits, or a sequence. */
 #define EXACT(at, partner) ((struct skut_why){.answer = {.a = 1, .b = (uint64_t)(partner)}, .reason = SKUT_WHY_EXACT, .position = (at)})
 #define UP(low, high, partner) \
