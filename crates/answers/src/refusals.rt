@@ -1,6 +1,6 @@
 // A refusal's number, and what it also tells.
 ghost use Rattle.std.specs.Prelude.{◌≡◌};
-ghost use Rattle.gorilla.specs.Array.{arrayNo};
+ghost use Rattle.gorilla.specs.Array.{array_no};
 ghost use Rattle.code_reader.specs.Refusal as reader;
 ghost use Rattle.encoder.specs.Encode as encoding;
 ghost use Rattle.tracker.specs.Refusal as table;
@@ -33,7 +33,7 @@ pub fn answer(number: u32, a: u64, b: u64, c: u64) -> Answer
 }
 
 fn array_no(array: Array) -> u64
-    ensures { result ≡ arrayNo array }
+    ensures { result ≡ array_no array }
 {
     match array {
         Array::Sequences => 0,

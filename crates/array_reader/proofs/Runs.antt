@@ -12,15 +12,15 @@ use lib.ListN.{length, drop, get_or, replicate}
 use lib.Seq.{drop-cons}
 use lib.IntN.{ℤ, pos}
 use Rattle.raw_bits.specs.Inner.{bit_at}
-use Rattle.bits.specs.Place.{posOf, place_of}
+use Rattle.bits.specs.Place.{pos_of, place_of}
 use Rattle.bits.specs.declared.Place.{Place}
 use Rattle.bits.proofs.Answers.{pos-place}
 use Rattle.bit_lists.specs.BitList.{bits_of}
 use Rattle.gorilla.specs.Inner.{shape}
 use Rattle.gorilla.specs.Parser.{read, refused, with}
-use Rattle.bits.specs.Inner.{bitsFrom}
-use Rattle.gorilla.specs.Reading.{count_ones, read_code, readCodes}
-use Rattle.bit_lists.proofs.Lists.{bit_is, length-bitsOf}
+use Rattle.bits.specs.Inner.{bits_from}
+use Rattle.gorilla.specs.Reading.{count_ones, read_code, read_codes}
+use Rattle.bit_lists.proofs.Lists.{bit_is, length-bits_of}
 use Rattle.gorilla.proofs.Taking.{no_bits}
 use Rattle.gorilla.proofs.Readers.{shape-next}
 use Rattle.code_reader.specs.declared.missing.Missing.{Missing}
@@ -34,43 +34,43 @@ unfolding read_code count_ones
 zero-code all a i bs = rw (no_bits (8 ∷ a ∷ i ∷ 0 ∷ []) bs)
 
 -- the first of them is the code of 0
-pub zeros-code : (all a i n : ℕ) (bs : List ℕ) → 0 < n → read (pos 0) (replicate (n - 1) 0 ++ bs) ≡ read_code all a i (replicate n 0 ++ bs)
-zeros-code all a i zero bs h = absurd (not-suc-le-zero h)
-zeros-code all a i (suc n) bs h = let e : suc n - 1 ≡ n = omega arith in ap (λ (u : ℕ). read (pos 0) (replicate u 0 ++ bs)) e ∙ zero-code all a i (replicate n 0 ++ bs)
+pub zeros_code : (all a i n : ℕ) (bs : List ℕ) → 0 < n → read (pos 0) (replicate (n - 1) 0 ++ bs) ≡ read_code all a i (replicate n 0 ++ bs)
+zeros_code all a i zero bs h = absurd (not-suc-le-zero h)
+zeros_code all a i (suc n) bs h = let e : suc n - 1 ≡ n = omega arith in ap (λ (u : ℕ). read (pos 0) (replicate u 0 ++ bs)) e ∙ zero-code all a i (replicate n 0 ++ bs)
 
 -- they are n codes
-pub zeros-codes : (all a n k i : ℕ) (bs : List ℕ) → shape (readCodes all a (n + k) i (replicate n 0 ++ bs)) ≡ shape (readCodes all a k (i + n) bs)
-zeros-codes all a zero k i bs =
+pub zeros_codes : (all a n k i : ℕ) (bs : List ℕ) → shape (read_codes all a (n + k) i (replicate n 0 ++ bs)) ≡ shape (read_codes all a k (i + n) bs)
+zeros_codes all a zero k i bs =
     let e : 0 + k ≡ k = omega arith in
-    ap₂ (λ (u v : ℕ). shape (readCodes all a u v bs)) e (sym (add-zero i))
-zeros-codes all a (suc n) k i bs =
+    ap₂ (λ (u v : ℕ). shape (read_codes all a u v bs)) e (sym (add-zero i))
+zeros_codes all a (suc n) k i bs =
     let e : suc n + k ≡ suc (n + k) = omega arith in
     let f : i + 1 + n ≡ i + suc n = omega arith in
-    ap (λ (u : ℕ). shape (readCodes all a u i (replicate (suc n) 0 ++ bs))) e
+    ap (λ (u : ℕ). shape (read_codes all a u i (replicate (suc n) 0 ++ bs))) e
     ∙ shape-next all a (n + k) i (replicate (suc n) 0 ++ bs) {d = pos 0} {q = replicate n 0 ++ bs} (zero-code all a i (replicate n 0 ++ bs))
-    ∙ zeros-codes all a n k (i + 1) bs ∙ ap (λ (u : ℕ). shape (readCodes all a k u bs)) f
+    ∙ zeros_codes all a n k (i + 1) bs ∙ ap (λ (u : ℕ). shape (read_codes all a k u bs)) f
 
 -- those of bytes
-zeros-on : (s : List ℕ) (n p : ℕ) → p + n ≤ length s * 8 → ((j : ℕ) → j < n → bit_at s (p + j) ≡ 0) → drop p (bits_of s) ≡ replicate n 0 ++ drop (p + n) (bits_of s)
-zeros-on s zero p h z = ap (λ (u : ℕ). drop u (bits_of s)) (sym (add-zero p))
-zeros-on s (suc n) p h z =
+zeros_on : (s : List ℕ) (n p : ℕ) → p + n ≤ length s * 8 → ((j : ℕ) → j < n → bit_at s (p + j) ≡ 0) → drop p (bits_of s) ≡ replicate n 0 ++ drop (p + n) (bits_of s)
+zeros_on s zero p h z = ap (λ (u : ℕ). drop u (bits_of s)) (sym (add-zero p))
+zeros_on s (suc n) p h z =
     let B : List ℕ = bits_of s in
-    let k : p < length B = omega (arith, length-bitsOf s) in
+    let k : p < length B = omega (arith, length-bits_of s) in
     let f : p + 1 + n ≡ p + suc n = omega arith in
     let b : get_or B p 0 ≡ 0 = bit_is s p ∙ ap (bit_at s) (sym (add-zero p)) ∙ z 0 (omega arith) in
     drop-cons B p 0 k ∙ ap₂ (λ (u v : ℕ). u ∷ drop v B) b (sym (add-one p))
-    ∙ ap (λ (r : List ℕ). 0 ∷ r) (zeros-on s n (p + 1) (omega arith) (λ j l. let w : p + 1 + j ≡ p + suc j = omega arith in ap (bit_at s) w ∙ z (suc j) (omega arith)))
+    ∙ ap (λ (r : List ℕ). 0 ∷ r) (zeros_on s n (p + 1) (omega arith) (λ j l. let w : p + 1 + j ≡ p + suc j = omega arith in ap (bit_at s) w ∙ z (suc j) (omega arith)))
     ∙ ap (λ (u : ℕ). replicate (suc n) 0 ++ drop u B) f
 
-zeros-from : (s : List ℕ) (at q : Place) (n : ℕ) → posOf (length s) at + n ≤ length s * 8 → posOf (length s) q ≡ posOf (length s) at + n
-    → ((j : ℕ) → j < n → bit_at s (posOf (length s) at + j) ≡ 0) → bitsFrom s at ≡ replicate n 0 ++ bitsFrom s q
-unfolding bitsFrom
-zeros-from s at q n h e z = zeros-on s n (posOf (length s) at) h z ∙ ap (λ (u : ℕ). replicate n 0 ++ drop u (bits_of s)) (sym e)
+zeros_from : (s : List ℕ) (at q : Place) (n : ℕ) → pos_of (length s) at + n ≤ length s * 8 → pos_of (length s) q ≡ pos_of (length s) at + n
+    → ((j : ℕ) → j < n → bit_at s (pos_of (length s) at + j) ≡ 0) → bits_from s at ≡ replicate n 0 ++ bits_from s q
+unfolding bits_from
+zeros_from s at q n h e z = zeros_on s n (pos_of (length s) at) h z ∙ ap (λ (u : ℕ). replicate n 0 ++ drop u (bits_of s)) (sym e)
 
 -- ---- what a window has at a place
 -- a place with bits after it
-inside : (len : ℕ) (at : Place) → posOf len at < len * 8 → (at.byte < len) × (at.bit < 8) × (posOf len at ≡ at.byte * 8 + at.bit)
-unfolding posOf
+inside : (len : ℕ) (at : Place) → pos_of len at < len * 8 → (at.byte < len) × (at.bit < 8) × (pos_of len at ≡ at.byte * 8 + at.bit)
+unfolding pos_of
 inside len at h = go (ltb at.byte len) refl (ltb at.bit 8) refl h
   where
     go : (t : Bool) → ltb at.byte len ≡ t → (u : Bool) → ltb at.bit 8 ≡ u → cond t (cond u (at.byte * 8 + at.bit) (len * 8)) (len * 8) < len * 8
@@ -79,26 +79,26 @@ inside len at h = go (ltb at.byte len) refl (ltb at.bit 8) refl h
     go true e false f g = absurd (omega (arith, g))
     go false e u f g = absurd (omega (arith, g))
 
-module _ (s : List ℕ) (at : Place) {w : Window} (h : Holds s (posOf (length s) at) w) where
+module _ (s : List ℕ) (at : Place) {w : Window} (h : Holds s (pos_of (length s) at) w) where
   -- n bits on
   module _ (n : ℕ) (k : 0 < n) (l : n ≤ w.have) where
-    pub here : (at.byte < length s) × (at.bit < 8) × (posOf (length s) at ≡ at.byte * 8 + at.bit)
+    pub here : (at.byte < length s) × (at.bit < 8) × (pos_of (length s) at ≡ at.byte * 8 + at.bit)
     here = inside (length s) at (omega (arith, h.within))
 
-    on : {q : Place} → q ≡ place_of (at.byte * 8 + at.bit + n) → posOf (length s) q ≡ posOf (length s) at + n
+    on : {q : Place} → q ≡ place_of (at.byte * 8 + at.bit + n) → pos_of (length s) q ≡ pos_of (length s) at + n
     on e =
         let p = here.2 in
-        ap (posOf (length s)) e ∙ ap (λ (u : ℕ). posOf (length s) (place_of (u + n))) (sym p) ∙ pos-place (length s) (posOf (length s) at + n) (omega (arith, h.within))
+        ap (pos_of (length s)) e ∙ ap (λ (u : ℕ). pos_of (length s) (place_of (u + n))) (sym p) ∙ pos-place (length s) (pos_of (length s) at + n) (omega (arith, h.within))
 
   -- zeros
-  pub zeros-on-at : (max n : ℕ) → Zeros w max n → 0 < n → {q : Place} → q ≡ place_of (at.byte * 8 + at.bit + n) → bitsFrom s at ≡ replicate n 0 ++ bitsFrom s q
-  zeros-on-at max n z k e = zeros-from s at _ n (omega (arith, h.within, z.1)) (on n k z.1 e) (z.2 s (posOf (length s) at) h)
+  pub zeros_on_at : (max n : ℕ) → Zeros w max n → 0 < n → {q : Place} → q ≡ place_of (at.byte * 8 + at.bit + n) → bits_from s at ≡ replicate n 0 ++ bits_from s q
+  zeros_on_at max n z k e = zeros_from s at _ n (omega (arith, h.within, z.1)) (on n k z.1 e) (z.2 s (pos_of (length s) at) h)
 
   -- a code
-  pub code_at : (a i n : ℕ) {d : ℤ} → ReadsCode w (c.Diff d n) → {q : Place} → q ≡ place_of (at.byte * 8 + at.bit + n) → read d (bitsFrom s q) ≡ read_code (length s * 8) a i (bitsFrom s at)
-  unfolding bitsFrom
-  code_at a i n {d} r e = ap (λ (u : ℕ). read d (drop u (bits_of s))) (on n r.0.0 r.0.1 e) ∙ r.1 s (posOf (length s) at) a i h
+  pub code_at : (a i n : ℕ) {d : ℤ} → ReadsCode w (c.Diff d n) → {q : Place} → q ≡ place_of (at.byte * 8 + at.bit + n) → read d (bits_from s q) ≡ read_code (length s * 8) a i (bits_from s at)
+  unfolding bits_from
+  code_at a i n {d} r e = ap (λ (u : ℕ). read d (drop u (bits_of s))) (on n r.0.0 r.0.1 e) ∙ r.1 s (pos_of (length s) at) a i h
 
-  pub code-cut-at : (a i left : ℕ) (m : Missing) → ReadsCode w (c.Cut m left) → refused (with (missed a i m) (place_of (length s * 8 - left))) ≡ read_code (length s * 8) a i (bitsFrom s at)
-  unfolding bitsFrom
-  code-cut-at a i left m k = k.1 s (posOf (length s) at) a i h
+  pub code_cut_at : (a i left : ℕ) (m : Missing) → ReadsCode w (c.Cut m left) → refused (with (missed a i m) (place_of (length s * 8 - left))) ≡ read_code (length s * 8) a i (bits_from s at)
+  unfolding bits_from
+  code_cut_at a i left m k = k.1 s (pos_of (length s) at) a i h

@@ -1,7 +1,7 @@
 // One array of an image, looked over with no value kept.
 ghost use Rattle.std.specs.Prelude.{◌≡◌, ◌≤◌, length};
-ghost use Rattle.bits.specs.Place.{posOf};
-ghost use Rattle.bit_lists.specs.BitList.{byteLen};
+ghost use Rattle.bits.specs.Place.{pos_of};
+ghost use Rattle.bit_lists.specs.BitList.{byte_len};
 ghost use Rattle.array_reader.specs.Inner.{ReadsValues, ReadsArray};
 
 use crate::scan::{Scanned, scan};
@@ -19,7 +19,7 @@ pub enum ArrayScan {
 
 // The byte after a place, or the place's own byte where it is a whole one.
 pub fn end_of(s: &[u8], at: Place) -> usize
-    ensures { result ≡ byteLen (posOf (length s.now) at) }
+    ensures { result ≡ byte_len (pos_of (length s.now) at) }
 {
     let p = bits::inner::settle(s.len(), at);
     if p.bit == 0 { p.byte } else { p.byte + 1 }

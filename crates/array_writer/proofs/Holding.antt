@@ -10,78 +10,78 @@ use lib.IntN.{ℤ, pos}
 use Rattle.bits.specs.Place.{place_of}
 use Rattle.bits.specs.declared.Place.{Place}
 use Rattle.gorilla.specs.declared.Track.{Track}
-use Rattle.bit_lists.specs.BitList.{natBits}
-use Rattle.raw_bits.specs.Inner.{putList}
-use Rattle.bit_lists.proofs.Lists.{length-natBits, length-putList, put-append}
-use Rattle.gorilla.proofs.Putting.{place-pos, place-bit}
+use Rattle.bit_lists.specs.BitList.{nat_bits}
+use Rattle.raw_bits.specs.Inner.{put_list}
+use Rattle.bit_lists.proofs.Lists.{length-nat_bits, length-put_list, put_append}
+use Rattle.gorilla.proofs.Putting.{place-pos, place_bit}
 use Rattle.code_writer.specs.declared.Held.{Held}
-use Rattle.code_writer.specs.Inner.{codes_of, Leads, heldBits, Fits}
-use Rattle.code_writer.proofs.Codes.{Written, write-first, write-next, write-last}
-use Rattle.code_writer.proofs.Once.{joined-bits, joined-fits}
+use Rattle.code_writer.specs.Inner.{codes_of, Leads, held_bits, Fits}
+use Rattle.code_writer.proofs.Codes.{Written, write_first, write_next, write_last}
+use Rattle.code_writer.proofs.Once.{joined_bits, joined_fits}
 
-abbrev pub bit-of : Place → ℕ
-bit-of p = p.byte * 8 + p.bit
+abbrev pub bit_of : Place → ℕ
+bit_of p = p.byte * 8 + p.bit
 
 -- once the held bits are put, the rest is to be written after them
 pub record Holding (xs : List ℤ) (s : List ℕ) (q : ℕ) (buf : List ℕ) (p : Place) (h : Held) (t : Track) (i : ℕ) : Type 0 where
   pub low : p.bit < 8
   pub most : h.width ≤ 64
   pub fits : Fits h
-  pub done : Written xs s q (putList buf (bit-of p) (heldBits h)) (bit-of p + h.width) t i
+  pub done : Written xs s q (put_list buf (bit_of p) (held_bits h)) (bit_of p + h.width) t i
 
-pub hold-first : (xs : List ℤ) (s : List ℕ) (p : Place) (x : ℤ) → 1 ≤ length xs → p.bit < 8 → x ≡ get_or xs 0 (pos 0)
-    → Holding xs s (bit-of p) s p (record { value = 0; width = 0 }) (record { prev = x; delta = pos 0 }) 1
-unfolding putList natBits
-hold-first xs s p x h l e = record {
+pub hold_first : (xs : List ℤ) (s : List ℕ) (p : Place) (x : ℤ) → 1 ≤ length xs → p.bit < 8 → x ≡ get_or xs 0 (pos 0)
+    → Holding xs s (bit_of p) s p (record { value = 0; width = 0 }) (record { prev = x; delta = pos 0 }) 1
+unfolding put_list nat_bits
+hold_first xs s p x h l e = record {
   low = l;
   most = omega arith;
   fits = omega arith;
-  done = subst (λ (m : ℕ). Written xs s (bit-of p) s m (record { prev = x; delta = pos 0 }) 1) (sym (add-zero (bit-of p))) (write-first xs s (bit-of p) x h e);
+  done = subst (λ (m : ℕ). Written xs s (bit_of p) s m (record { prev = x; delta = pos 0 }) 1) (sym (add-zero (bit_of p))) (write_first xs s (bit_of p) x h e);
 }
 
 module _ {xs : List ℤ} {s : List ℕ} {q : ℕ} {buf : List ℕ} {p : Place} {h : Held} {t : Track} {i : ℕ} (w : Holding xs s q buf p h t i) where
-  pub hold-same : length buf ≡ length s
-  hold-same = sym (length-putList buf (bit-of p) (heldBits h)) ∙ w.done.same
+  pub hold_same : length buf ≡ length s
+  hold_same = sym (length-put_list buf (bit_of p) (held_bits h)) ∙ w.done.same
 
   -- the held bits find room
-  pub hold-room : q + length (codes_of xs) ≤ length s * 8 → bit-of p + h.width ≤ length buf * 8
-  hold-room r = omega (arith, w.done.rest, hold-same, r)
+  pub hold_room : q + length (codes_of xs) ≤ length s * 8 → bit_of p + h.width ≤ length buf * 8
+  hold_room r = omega (arith, w.done.rest, hold_same, r)
 
   -- the codes that are next, up to index j: g are their bits
-  module _ (g : Held) (k : Fits g) {j : ℕ} {u : Track} (l : Leads xs i t (heldBits g) j u) where
+  module _ (g : Held) (k : Fits g) {j : ℕ} {u : Track} (l : Leads xs i t (held_bits g) j u) where
     -- held with the others
-    pub hold-more : (n : Held) → h.width + g.width ≤ 64 → n ≡ record { value = h.value * 2 ^ g.width + g.value; width = h.width + g.width }
+    pub hold_more : (n : Held) → h.width + g.width ≤ 64 → n ≡ record { value = h.value * 2 ^ g.width + g.value; width = h.width + g.width }
         → Holding xs s q buf p n u j
-    hold-more n r b =
-        let m : ℕ = bit-of p in
+    hold_more n r b =
+        let m : ℕ = bit_of p in
         let v : n.width ≡ h.width + g.width = ap (λ (x : Held). x.width) b in
-        let o : m + length (heldBits h) ≡ m + h.width = ap (λ (x : ℕ). m + x) (length-natBits h.width h.value) in
-        let e : putList buf m (heldBits n) ≡ putList (putList buf m (heldBits h)) (m + h.width) (heldBits g) =
-        ap (putList buf m) (joined-bits h g n w.fits k b) ∙ put-append buf m (heldBits h) (heldBits g)
-        ∙ ap (λ (x : ℕ). putList (putList buf m (heldBits h)) x (heldBits g)) o in record {
+        let o : m + length (held_bits h) ≡ m + h.width = ap (λ (x : ℕ). m + x) (length-nat_bits h.width h.value) in
+        let e : put_list buf m (held_bits n) ≡ put_list (put_list buf m (held_bits h)) (m + h.width) (held_bits g) =
+        ap (put_list buf m) (joined_bits h g n w.fits k b) ∙ put_append buf m (held_bits h) (held_bits g)
+        ∙ ap (λ (x : ℕ). put_list (put_list buf m (held_bits h)) x (held_bits g)) o in record {
           low = w.low;
           most = omega (arith, v, r);
-          fits = joined-fits h g n w.fits k b;
-          done = write-next w.done (heldBits g) l (putList buf m (heldBits n)) (m + n.width) (omega (arith, v, length-natBits g.width g.value)) e;
+          fits = joined_fits h g n w.fits k b;
+          done = write_next w.done (held_bits g) l (put_list buf m (held_bits n)) (m + n.width) (omega (arith, v, length-nat_bits g.width g.value)) e;
         }
 
     -- held alone, the others put
-    pub hold-put : (y : List ℕ) (r : Place) → g.width ≤ 64 → r ≡ place_of (bit-of p + h.width) → y ≡ putList buf (bit-of p) (heldBits h)
+    pub hold_put : (y : List ℕ) (r : Place) → g.width ≤ 64 → r ≡ place_of (bit_of p + h.width) → y ≡ put_list buf (bit_of p) (held_bits h)
         → Holding xs s q y r g u j
-    hold-put y r z a b =
-        let m : ℕ = bit-of p + h.width in
-        let o : bit-of r ≡ m = place-pos m a in
-        let e : putList y (bit-of r) (heldBits g) ≡ putList (putList buf (bit-of p) (heldBits h)) m (heldBits g) =
-        ap₂ (λ (x : List ℕ) (n : ℕ). putList x n (heldBits g)) b o in record {
-          low = place-bit m a;
+    hold_put y r z a b =
+        let m : ℕ = bit_of p + h.width in
+        let o : bit_of r ≡ m = place-pos m a in
+        let e : put_list y (bit_of r) (held_bits g) ≡ put_list (put_list buf (bit_of p) (held_bits h)) m (held_bits g) =
+        ap₂ (λ (x : List ℕ) (n : ℕ). put_list x n (held_bits g)) b o in record {
+          low = place_bit m a;
           most = z;
           fits = k;
-          done = write-next w.done (heldBits g) l (putList y (bit-of r) (heldBits g)) (bit-of r + g.width) (omega (arith, o, length-natBits g.width g.value)) e;
+          done = write_next w.done (held_bits g) l (put_list y (bit_of r) (held_bits g)) (bit_of r + g.width) (omega (arith, o, length-nat_bits g.width g.value)) e;
         }
 
   -- the held bits are put after the last code
-  pub hold-last : length xs ≤ i → (u : List ℕ) (r : Place) → r ≡ place_of (bit-of p + h.width) → u ≡ putList buf (bit-of p) (heldBits h)
-      → (r ≡ place_of (q + length (codes_of xs))) × (u ≡ putList s q (codes_of xs))
-  hold-last l u r a b =
-      let d = write-last w.done l in
+  pub hold_last : length xs ≤ i → (u : List ℕ) (r : Place) → r ≡ place_of (bit_of p + h.width) → u ≡ put_list buf (bit_of p) (held_bits h)
+      → (r ≡ place_of (q + length (codes_of xs))) × (u ≡ put_list s q (codes_of xs))
+  hold_last l u r a b =
+      let d = write_last w.done l in
       (a ∙ ap place_of d.0, b ∙ d.1)

@@ -3,8 +3,8 @@ use Rattle.std.specs.Prelude.{ℕ, ◌+◌, ◌*◌, ◌≤◌, ◌<◌, ◌≡�
 use Rattle.std.proofs.lemmas.List.Edits.{sets}
 use Rattle.bits.specs.Place.{place_of}
 use Rattle.bits.specs.declared.Place.{Place}
-use Rattle.raw_bits.specs.Inner.{putList}
-use Rattle.gorilla.specs.Format.{arrayBytes}
+use Rattle.raw_bits.specs.Inner.{put_list}
+use Rattle.gorilla.specs.Format.{array_bytes}
 use Rattle.code_writer.specs.Inner.{codes_of}
 
 -- the codes of xs find room in buf from a place on
@@ -13,8 +13,8 @@ CodesFit buf at xs = (at.bit < 8) × (at.byte * 8 + at.bit + length (codes_of xs
 
 -- buf with the codes of xs from a place on is `now`, and the place after them is p
 abbrev pub CodesPut : List ℕ → Place → List ℤ → Place → List ℕ → Type 0
-CodesPut buf at xs p now = (p ≡ place_of (at.byte * 8 + at.bit + length (codes_of xs))) × (now ≡ putList buf (at.byte * 8 + at.bit) (codes_of xs))
+CodesPut buf at xs p now = (p ≡ place_of (at.byte * 8 + at.bit + length (codes_of xs))) × (now ≡ put_list buf (at.byte * 8 + at.bit) (codes_of xs))
 
 -- buf with the array xs from a byte on is `now`, and the byte after it is `end`
 abbrev pub ArrayPut : List ℕ → ℕ → List ℤ → ℕ → List ℕ → Type 0
-ArrayPut buf from xs end now = (end ≡ from + length (arrayBytes xs)) × (now ≡ sets buf from (arrayBytes xs))
+ArrayPut buf from xs end now = (end ≡ from + length (array_bytes xs)) × (now ≡ sets buf from (array_bytes xs))

@@ -1,7 +1,7 @@
 // One array, written from a whole byte on.
 ghost use Rattle.std.specs.Prelude.{map, ◌+◌, ◌*◌, ◌≤◌, length};
 ghost use Rattle.signed.specs.Signed.{signed};
-ghost use Rattle.gorilla.specs.Format.{arrayBits};
+ghost use Rattle.gorilla.specs.Format.{array_bits};
 ghost use Rattle.array_writer.specs.Inner.{CodesFit, CodesPut, ArrayPut};
 
 use bits::Place;
@@ -102,7 +102,7 @@ fn write_sec_codes(buf: &mut [u8], at: Place, secs: &[i64]) -> Place
 
 // The sequences' array from the byte `from` on, and the byte after it.
 pub fn write_seqs(buf: &mut [u8], from: usize, seqs: &[u64]) -> usize
-    requires { from * 8 + length (arrayBits (map signed seqs.now)) ≤ length buf.old * 8 }
+    requires { from * 8 + length (array_bits (map signed seqs.now)) ≤ length buf.old * 8 }
     ensures { ArrayPut buf.old from (map signed seqs.now) result buf.new }
 {
     if seqs.len() == 0 {
@@ -114,7 +114,7 @@ pub fn write_seqs(buf: &mut [u8], from: usize, seqs: &[u64]) -> usize
 
 // The seconds' array from the byte `from` on, and the byte after it.
 pub fn write_secs(buf: &mut [u8], from: usize, secs: &[i64]) -> usize
-    requires { from * 8 + length (arrayBits secs.now) ≤ length buf.old * 8 }
+    requires { from * 8 + length (array_bits secs.now) ≤ length buf.old * 8 }
     ensures { ArrayPut buf.old from secs.now result buf.new }
 {
     if secs.len() == 0 {

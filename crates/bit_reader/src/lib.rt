@@ -4,7 +4,7 @@
 // A call over a struct that holds a reference is proved by a walk of its MIR, so these are few and thin: the work
 // is `read_bits`. Who calls `read_from`, which has plain parameters, needs no walk.
 ghost use Rattle.std.specs.Prelude.{◌≡◌};
-ghost use Rattle.bits.specs.Read.{toldRead, readRule};
+ghost use Rattle.bits.specs.Read.{told_read, read_rule};
 ghost use Rattle.bit_reader.specs.Reader.{place_in};
 
 use bits::{BitsRead, Place, read_bits};
@@ -30,7 +30,7 @@ impl<'a> BitReader<'a> {
 
     // `width` bits from the reader's place on.
     pub fn read(self, width: u8) -> BitsRead
-        ensures { toldRead result ≡ readRule self.entry.buf.now (place_in self.entry) width }
+        ensures { told_read result ≡ read_rule self.entry.buf.now (place_in self.entry) width }
     {
         read_bits(
             self.buf,
@@ -56,7 +56,7 @@ impl<'a> BitReader<'a> {
 
 // A read through a reader, for a caller that holds none.
 pub fn read_from(s: &[u8], at: Place, width: u8) -> BitsRead
-    ensures { toldRead result ≡ readRule s.now at width }
+    ensures { told_read result ≡ read_rule s.now at width }
 {
     BitReader::new(s).moved(at).read(width)
 }

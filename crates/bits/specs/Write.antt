@@ -2,30 +2,30 @@
 use Rattle.std.specs.Prelude.{ℕ, zero, suc, ◌+◌, ◌*◌, ◌≡◌, cond, List, [], ◌∷◌, ◌++◌, length, take, ltb}
 use Rattle.told.specs.Told.{Told, gave, refused}
 use Rattle.told.specs.Over.{filled}
-use Rattle.bit_lists.specs.BitList.{natBits, bits_of, byteLen, packed}
-use Rattle.bits.specs.Place.{posOf, place_of}
+use Rattle.bit_lists.specs.BitList.{nat_bits, bits_of, byte_len, packed}
+use Rattle.bits.specs.Place.{pos_of, place_of}
 use Rattle.bits.specs.declared.Place.{Place}
 use Rattle.bits.specs.declared.BitsWritten.{BitsWritten}
 use Rattle.bits.specs.declared.BitsWritten.TheVariants.{Done, Width, Short}
 
-abbrev pub toldWrite : BitsWritten → Told Place
-toldWrite (Done p) = gave p
-toldWrite Width = refused (23 ∷ [])
-toldWrite (Short bytes) = refused (21 ∷ bytes ∷ [])
+abbrev pub told_write : BitsWritten → Told Place
+told_write (Done p) = gave p
+told_write Width = refused (23 ∷ [])
+told_write (Short bytes) = refused (21 ∷ bytes ∷ [])
 
 -- n bits into s from a place on: above 64 refused, then, told with the whole bytes needed, a buffer too short
-unfoldable pub writeRule : List ℕ → Place → ℕ → Told Place
-writeRule s at n =
+unfoldable pub write_rule : List ℕ → Place → ℕ → Told Place
+write_rule s at n =
     cond (ltb 64 n) (refused (23 ∷ []))
-    (cond (ltb (length s * 8) (posOf (length s) at + n)) (refused (21 ∷ byteLen (posOf (length s) at + n) ∷ []))
-    (gave (place_of (posOf (length s) at + n))))
+    (cond (ltb (length s * 8) (pos_of (length s) at + n)) (refused (21 ∷ byte_len (pos_of (length s) at + n) ∷ []))
+    (gave (place_of (pos_of (length s) at + n))))
 
 -- the buffer after a write of the n low bits of v: the bits before the place, these, zeros to the end of their last byte, and past it
 -- what stood there; with no bits to write, or refused, it is as before
 unfoldable pub written : List ℕ → Place → ℕ → ℕ → List ℕ
 written s at v zero = s
-written s at v (suc n) = filled (writeRule s at (suc n)) (packed (take (posOf (length s) at) (bits_of s) ++ natBits (suc n) v)) s
+written s at v (suc n) = filled (write_rule s at (suc n)) (packed (take (pos_of (length s) at) (bits_of s) ++ nat_bits (suc n) v)) s
 
 -- `write_bits` of the n low bits of v into s: its answer, and what s is afterwards
 abbrev pub Writes : List ℕ → Place → ℕ → ℕ → BitsWritten → List ℕ → Type 0
-Writes s at v n r now = (toldWrite r ≡ writeRule s at n) × (now ≡ written s at v n)
+Writes s at v n r now = (told_write r ≡ write_rule s at n) × (now ≡ written s at v n)

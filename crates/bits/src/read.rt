@@ -1,13 +1,13 @@
 // A read of 0 to 64 bits.
 ghost use Rattle.std.specs.Prelude.{◌≡◌};
-ghost use Rattle.bits.specs.Read.{toldRead, readRule};
+ghost use Rattle.bits.specs.Read.{told_read, read_rule};
 
 use crate::inner::{after, left_at, needed, settle};
 use crate::{BitsRead, Place};
 use raw_bits::inner::take_bits;
 
 pub fn read_bits(s: &[u8], at: Place, width: u8) -> BitsRead
-    ensures { toldRead result ≡ readRule s.now at width }
+    ensures { told_read result ≡ read_rule s.now at width }
 {
     let p = settle(s.len(), at);
     let n = needed(p, width);

@@ -8,44 +8,44 @@ use native.Mathlib.Omega.{arith}
 use borrow.Author.Tests.{lt-ltb, le-ltb, ltb-true, ltb-false, eq-eqb, ne_eqb}
 use lib.Dec.{ltb, eqb}
 use lib.ListN.{take, get_or, length}
-use Rattle.calendar.specs.Calendar.{leap, daysOfYears, monthLengths, lengthsOf, summed}
-use Rattle.calendar.specs.Inner.{part, yearsBefore}
+use Rattle.calendar.specs.Calendar.{leap, days_of_years, month_lengths, lengths_of, summed}
+use Rattle.calendar.specs.Inner.{part, years_before}
 use Rattle.calendar.proofs.Parts.{part_at}
 use Rattle.calendar.proofs.Trip.{twelve}
 
 -- ---- leap years
-pub leap-fourth : (y : ℕ) → y % 4 ≡ 0 → (y % 100 ≡ 0 → ⊥) → true ≡ leap y
+pub leap_fourth : (y : ℕ) → y % 4 ≡ 0 → (y % 100 ≡ 0 → ⊥) → true ≡ leap y
 unfolding leap
-leap-fourth y p q = rw (eq-eqb _ _ p, ne_eqb (y % 100) 0 q)
+leap_fourth y p q = rw (eq-eqb _ _ p, ne_eqb (y % 100) 0 q)
 
-pub leap-hundred : (y : ℕ) → y % 4 ≡ 0 → y % 100 ≡ 0 → eqb (y % 400) 0 ≡ leap y
+pub leap_hundred : (y : ℕ) → y % 4 ≡ 0 → y % 100 ≡ 0 → eqb (y % 400) 0 ≡ leap y
 unfolding leap
-leap-hundred y p q = rw (eq-eqb (y % 4) 0 p, eq-eqb (y % 100) 0 q)
+leap_hundred y p q = rw (eq-eqb (y % 4) 0 p, eq-eqb (y % 100) 0 q)
 
 pub leap-none : (y : ℕ) → (y % 4 ≡ 0 → ⊥) → false ≡ leap y
 unfolding leap
 leap-none y p = rw (ne_eqb (y % 4) 0 p)
 
--- ---- monthLengths
-pub february : (m : ℕ) → m ≡ 1 → ◌≡◌ {A = ℕ} 29 (get_or (lengthsOf true) m 0)
-unfolding lengthsOf
+-- ---- month_lengths
+pub february : (m : ℕ) → m ≡ 1 → ◌≡◌ {A = ℕ} 29 (get_or (lengths_of true) m 0)
+unfolding lengths_of
 february m e = rw e
 
-pub other : (m : ℕ) → (m ≡ 1 → ⊥) → get_or monthLengths m 0 ≡ get_or (lengthsOf true) m 0
-unfolding lengthsOf
+pub other : (m : ℕ) → (m ≡ 1 → ⊥) → get_or month_lengths m 0 ≡ get_or (lengths_of true) m 0
+unfolding lengths_of
 other zero h = refl
 other (suc zero) h = absurd (h refl)
 other (suc (suc m)) h = refl
 
-pub common : (m : ℕ) → get_or monthLengths m 0 ≡ get_or (lengthsOf false) m 0
-unfolding lengthsOf
+pub common : (m : ℕ) → get_or month_lengths m 0 ≡ get_or (lengths_of false) m 0
+unfolding lengths_of
 common m = refl
 
-total-more : (ns : List ℕ) (i : ℕ) → i < length ns → summed (take (suc i) ns) ≡ summed (take i ns) + get_or ns i 0
+total_more : (ns : List ℕ) (i : ℕ) → i < length ns → summed (take (suc i) ns) ≡ summed (take i ns) + get_or ns i 0
 unfolding summed
-total-more [] i h = absurd (omega arith)
-total-more (n ∷ ns) zero h = omega arith
-total-more (n ∷ ns) (suc i) h = omega (arith, total-more ns i (omega arith))
+total_more [] i h = absurd (omega arith)
+total_more (n ∷ ns) zero h = omega arith
+total_more (n ∷ ns) (suc i) h = omega (arith, total_more ns i (omega arith))
 
 total-all : (ns : List ℕ) (i : ℕ) → length ns ≤ i → summed (take i ns) ≡ summed ns
 unfolding summed
@@ -55,45 +55,45 @@ total-all (n ∷ ns) zero h = absurd (omega arith)
 total-all (n ∷ ns) (suc i) h = ap (λ (x : ℕ). n + x) (total-all ns i (omega arith))
 
 -- one month on
-pub ahead_more : (l : Bool) (m : ℕ) → m < 12 → summed (take (m + 1) (lengthsOf l)) ≡ summed (take m (lengthsOf l)) + get_or (lengthsOf l) m 0
-ahead_more l m h = rw add-one (total-more (lengthsOf l) m (omega (arith, twelve l)))
+pub ahead_more : (l : Bool) (m : ℕ) → m < 12 → summed (take (m + 1) (lengths_of l)) ≡ summed (take m (lengths_of l)) + get_or (lengths_of l) m 0
+ahead_more l m h = rw add-one (total_more (lengths_of l) m (omega (arith, twelve l)))
 
--- a year's monthLengths are not used up before its days are
-pub not_yet : (l : Bool) (m d x : ℕ) → d < summed (lengthsOf l) → d ≡ summed (take m (lengthsOf l)) + x → m < 12
+-- a year's month_lengths are not used up before its days are
+pub not_yet : (l : Bool) (m d x : ℕ) → d < summed (lengths_of l) → d ≡ summed (take m (lengths_of l)) + x → m < 12
 not_yet l m d x h e = go (ltb m 12) refl
   where
     go : (b : Bool) → ltb m 12 ≡ b → m < 12
     go true t = ltb-true m 12 t
-    go false t = absurd (omega (arith, total-all (lengthsOf l) m (omega (arith, twelve l, ltb-false m 12 t))))
+    go false t = absurd (omega (arith, total-all (lengths_of l) m (omega (arith, twelve l, ltb-false m 12 t))))
 
-pub found : (l : Bool) (m d x : ℕ) → m < 12 → d ≡ summed (take m (lengthsOf l)) + x → x < get_or (lengthsOf l) m 0 → record { index = m; rest = x } ≡ part (lengthsOf l) d
-found l m d x h e k = sym (ap (part (lengthsOf l)) e ∙ part_at (lengthsOf l) m x (omega (arith, twelve l)) k)
+pub found : (l : Bool) (m d x : ℕ) → m < 12 → d ≡ summed (take m (lengths_of l)) + x → x < get_or (lengths_of l) m 0 → record { index = m; rest = x } ≡ part (lengths_of l) d
+found l m d x h e k = sym (ap (part (lengths_of l)) e ∙ part_at (lengths_of l) m x (omega (arith, twelve l)) k)
 
 -- ---- years
-pub guess-holds : (d : ℕ) → d < daysOfYears (d * 400 / 146097 + 1) → d * 400 / 146097 ≡ yearsBefore d
-unfolding yearsBefore
-guess-holds d h = rw (lt-ltb d (daysOfYears (d * 400 / 146097 + 1)) h)
+pub guess_holds : (d : ℕ) → d < days_of_years (d * 400 / 146097 + 1) → d * 400 / 146097 ≡ years_before d
+unfolding years_before
+guess_holds d h = rw (lt-ltb d (days_of_years (d * 400 / 146097 + 1)) h)
 
-pub guess-low : (d : ℕ) → daysOfYears (d * 400 / 146097 + 1) ≤ d → d * 400 / 146097 + 1 ≡ yearsBefore d
-unfolding yearsBefore
-guess-low d h = rw (le-ltb d (daysOfYears (d * 400 / 146097 + 1)) h)
+pub guess_low : (d : ℕ) → days_of_years (d * 400 / 146097 + 1) ≤ d → d * 400 / 146097 + 1 ≡ years_before d
+unfolding years_before
+guess_low d h = rw (le-ltb d (days_of_years (d * 400 / 146097 + 1)) h)
 
 -- ---- bounds
-total-le : (ns : List ℕ) (i : ℕ) → summed (take i ns) ≤ summed ns
+total_le : (ns : List ℕ) (i : ℕ) → summed (take i ns) ≤ summed ns
 unfolding summed
-total-le [] zero = omega arith
-total-le [] (suc i) = omega arith
-total-le (n ∷ ns) zero = omega arith
-total-le (n ∷ ns) (suc i) = omega (arith, total-le ns i)
+total_le [] zero = omega arith
+total_le [] (suc i) = omega arith
+total_le (n ∷ ns) zero = omega arith
+total_le (n ∷ ns) (suc i) = omega (arith, total_le ns i)
 
-pub year-small : (l : Bool) → summed (lengthsOf l) ≤ 366
-unfolding lengthsOf summed
-year-small true = omega arith
-year-small false = omega arith
+pub year_small : (l : Bool) → summed (lengths_of l) ≤ 366
+unfolding lengths_of summed
+year_small true = omega arith
+year_small false = omega arith
 
-pub ahead_small : (l : Bool) (m : ℕ) → summed (take m (lengthsOf l)) ≤ 366
-ahead_small l m = omega (arith, total-le (lengthsOf l) m, year-small l)
+pub ahead_small : (l : Bool) (m : ℕ) → summed (take m (lengths_of l)) ≤ 366
+ahead_small l m = omega (arith, total_le (lengths_of l) m, year_small l)
 
-pub none_ahead : (l : Bool) → summed (take 0 (lengthsOf l)) ≡ 0
+pub none_ahead : (l : Bool) → summed (take 0 (lengths_of l)) ≡ 0
 unfolding summed
 none_ahead l = refl

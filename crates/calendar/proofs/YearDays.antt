@@ -7,8 +7,8 @@ use native.Mathlib.Omega.{arith}
 use borrow.Author.Tests.{ltb-true, ltb-false, eqb-true, eqb-false}
 use lib.Arith.{digits_div, digits_mod}
 use lib.Dec.{ltb, eqb}
-use Rattle.calendar.specs.Calendar.{leap, daysOfYears, lengthsOf, summed}
-use Rattle.calendar.specs.Inner.{yearsBefore}
+use Rattle.calendar.specs.Calendar.{leap, days_of_years, lengths_of, summed}
+use Rattle.calendar.specs.Inner.{years_before}
 
 -- a quotient as its dividend grows by one
 module _ (m k : ℕ) (h : zero < m) where
@@ -50,11 +50,11 @@ under k = omega arith
 abbrev pub closed : ℕ → ℕ
 closed k = 365 * k + k / 4 - k / 100 + k / 400
 
-closed-next : (k : ℕ) → closed (k + 1) ≡ closed k + summed (lengthsOf (leap (k + 1)))
-unfolding leap lengthsOf summed
-closed-next k = go (eqb ((k + 1) % 4) 0) (eqb ((k + 1) % 100) 0) (eqb ((k + 1) % 400) 0) refl refl refl
+closed_next : (k : ℕ) → closed (k + 1) ≡ closed k + summed (lengths_of (leap (k + 1)))
+unfolding leap lengths_of summed
+closed_next k = go (eqb ((k + 1) % 4) 0) (eqb ((k + 1) % 100) 0) (eqb ((k + 1) % 400) 0) refl refl refl
   where
-    go : (a b c : Bool) → eqb ((k + 1) % 4) 0 ≡ a → eqb ((k + 1) % 100) 0 ≡ b → eqb ((k + 1) % 400) 0 ≡ c → closed (k + 1) ≡ closed k + summed (lengthsOf (a && (not b || c)))
+    go : (a b c : Bool) → eqb ((k + 1) % 4) 0 ≡ a → eqb ((k + 1) % 100) 0 ≡ b → eqb ((k + 1) % 400) 0 ≡ c → closed (k + 1) ≡ closed k + summed (lengths_of (a && (not b || c)))
     go true true true p q r =
         grown k (k / 4) (k / 100) (k / 400) 1 1 1 366 (under k) (up 4 k (omega arith) (eqb-true _ _ p)) (up 100 k (omega arith) (eqb-true _ _ q)) (up 400 k (omega arith) (eqb-true _ _ r)) (omega arith) refl
     go true true false p q r =
@@ -67,59 +67,59 @@ closed-next k = go (eqb ((k + 1) % 4) 0) (eqb ((k + 1) % 100) 0) (eqb ((k + 1) %
     go false false false p q r =
         grown k (k / 4) (k / 100) (k / 400) 0 0 0 365 (under k) (stay 4 k (omega arith) (eqb-false _ _ p)) (stay 100 k (omega arith) (eqb-false _ _ q)) (stay 400 k (omega arith) (eqb-false _ _ r)) (omega arith) refl
 
-one_more : (k : ℕ) → k + 1 ≡ suc k
-one_more k = omega arith
+one_more_lem : (k : ℕ) → k + 1 ≡ suc k
+one_more_lem k = omega arith
 
-pub closed-form : (k : ℕ) → daysOfYears k ≡ closed k
-unfolding daysOfYears
-closed-form zero = refl
-closed-form (suc k) = ap (λ (n : ℕ). n + summed (lengthsOf (leap (suc k)))) (closed-form k) ∙ sym (rw (one_more k) at (closed-next k))
+pub closed_form : (k : ℕ) → days_of_years k ≡ closed k
+unfolding days_of_years
+closed_form zero = refl
+closed_form (suc k) = ap (λ (n : ℕ). n + summed (lengths_of (leap (suc k)))) (closed_form k) ∙ sym (rw (one_more_lem k) at (closed_next k))
 
 -- a year has the days of its months
-pub year-length : (k : ℕ) → daysOfYears (k + 1) ≡ daysOfYears k + summed (lengthsOf (leap (k + 1)))
-year-length k = rw (closed-form (k + 1), closed-form k) (closed-next k)
+pub year-length : (k : ℕ) → days_of_years (k + 1) ≡ days_of_years k + summed (lengths_of (leap (k + 1)))
+year-length k = rw (closed_form (k + 1), closed_form k) (closed_next k)
 
 -- later years start later
-pub days-mono : (j k : ℕ) → j ≤ k → daysOfYears j ≤ daysOfYears k
-unfolding daysOfYears
-days-mono j zero h = let e : j ≡ 0 = omega arith in rw e (omega arith)
-days-mono j (suc k) h = go (ltb j (suc k)) refl (λ l. days-mono j k l)
+pub days_mono : (j k : ℕ) → j ≤ k → days_of_years j ≤ days_of_years k
+unfolding days_of_years
+days_mono j zero h = let e : j ≡ 0 = omega arith in rw e (omega arith)
+days_mono j (suc k) h = go (ltb j (suc k)) refl (λ l. days_mono j k l)
   where
-    go : (b : Bool) → ltb j (suc k) ≡ b → (j ≤ k → daysOfYears j ≤ daysOfYears k) → daysOfYears j ≤ daysOfYears (suc k)
+    go : (b : Bool) → ltb j (suc k) ≡ b → (j ≤ k → days_of_years j ≤ days_of_years k) → days_of_years j ≤ days_of_years (suc k)
     go true t f = omega (arith, f (omega (arith, ltb-true j (suc k) t)))
     go false t f = let e : j ≡ suc k = omega (arith, ltb-false j (suc k) t) in rw e (omega arith)
 
 -- the guess is not too high, and at most one too low
-low : (d : ℕ) → daysOfYears (d * 400 / 146097) ≤ d
-low d = omega (arith, closed-form (d * 400 / 146097))
+low : (d : ℕ) → days_of_years (d * 400 / 146097) ≤ d
+low d = omega (arith, closed_form (d * 400 / 146097))
 
-high : (d : ℕ) → d < daysOfYears (d * 400 / 146097 + 2)
-high d = omega (arith, closed-form (d * 400 / 146097 + 2))
+high : (d : ℕ) → d < days_of_years (d * 400 / 146097 + 2)
+high d = omega (arith, closed_form (d * 400 / 146097 + 2))
 
 -- the year found holds the day
-pub year-from : (d : ℕ) → daysOfYears (yearsBefore d) ≤ d
-unfolding yearsBefore
-year-from d = go (ltb d (daysOfYears (d * 400 / 146097 + 1))) refl
+pub year-from : (d : ℕ) → days_of_years (years_before d) ≤ d
+unfolding years_before
+year-from d = go (ltb d (days_of_years (d * 400 / 146097 + 1))) refl
   where
-    go : (b : Bool) → ltb d (daysOfYears (d * 400 / 146097 + 1)) ≡ b → daysOfYears (cond b (d * 400 / 146097) (d * 400 / 146097 + 1)) ≤ d
+    go : (b : Bool) → ltb d (days_of_years (d * 400 / 146097 + 1)) ≡ b → days_of_years (cond b (d * 400 / 146097) (d * 400 / 146097 + 1)) ≤ d
     go true e = low d
-    go false e = ltb-false d (daysOfYears (d * 400 / 146097 + 1)) e
+    go false e = ltb-false d (days_of_years (d * 400 / 146097 + 1)) e
 
-pub year-to : (d : ℕ) → d < daysOfYears (yearsBefore d + 1)
-unfolding yearsBefore
-year-to d = go (ltb d (daysOfYears (d * 400 / 146097 + 1))) refl
+pub year_to : (d : ℕ) → d < days_of_years (years_before d + 1)
+unfolding years_before
+year_to d = go (ltb d (days_of_years (d * 400 / 146097 + 1))) refl
   where
-    go : (b : Bool) → ltb d (daysOfYears (d * 400 / 146097 + 1)) ≡ b → d < daysOfYears (cond b (d * 400 / 146097) (d * 400 / 146097 + 1) + 1)
-    go true e = ltb-true d (daysOfYears (d * 400 / 146097 + 1)) e
+    go : (b : Bool) → ltb d (days_of_years (d * 400 / 146097 + 1)) ≡ b → d < days_of_years (cond b (d * 400 / 146097) (d * 400 / 146097 + 1) + 1)
+    go true e = ltb-true d (days_of_years (d * 400 / 146097 + 1)) e
     go false e =
         let p : d * 400 / 146097 + 1 + 1 ≡ d * 400 / 146097 + 2 = omega arith in
         rw p (high d)
 
 -- and no other does
-pub year-is : (d y : ℕ) → daysOfYears y ≤ d → d < daysOfYears (y + 1) → yearsBefore d ≡ y
-year-is d y h k = go (ltb (yearsBefore d) y) (ltb y (yearsBefore d)) refl refl
+pub year_is : (d y : ℕ) → days_of_years y ≤ d → d < days_of_years (y + 1) → years_before d ≡ y
+year_is d y h k = go (ltb (years_before d) y) (ltb y (years_before d)) refl refl
   where
-    go : (a b : Bool) → ltb (yearsBefore d) y ≡ a → ltb y (yearsBefore d) ≡ b → yearsBefore d ≡ y
-    go true b p q = absurd (omega (arith, days-mono (yearsBefore d + 1) y (omega (arith, ltb-true (yearsBefore d) y p)), year-to d))
-    go false true p q = absurd (omega (arith, days-mono (y + 1) (yearsBefore d) (omega (arith, ltb-true y (yearsBefore d) q)), year-from d))
-    go false false p q = omega (arith, ltb-false (yearsBefore d) y p, ltb-false y (yearsBefore d) q)
+    go : (a b : Bool) → ltb (years_before d) y ≡ a → ltb y (years_before d) ≡ b → years_before d ≡ y
+    go true b p q = absurd (omega (arith, days_mono (years_before d + 1) y (omega (arith, ltb-true (years_before d) y p)), year_to d))
+    go false true p q = absurd (omega (arith, days_mono (y + 1) (years_before d) (omega (arith, ltb-true y (years_before d) q)), year-from d))
+    go false false p q = omega (arith, ltb-false (years_before d) y p, ltb-false y (years_before d) q)

@@ -1,8 +1,8 @@
 // A date's second, and a second's date, for our own crates. A moment is a count of seconds from 0001-01-01T00:00:00Z on.
 ghost use Rattle.std.specs.Prelude.{◌≡◌, true, false, ◌≤◌, ◌<◌};
 ghost use Rattle.limits.specs.Domain.{outside};
-ghost use Rattle.calendar.specs.Calendar.{momentOf, second_of, within, isDay, isTime, isDate};
-ghost use Rattle.calendar.specs.Inner.{Valid, dateOf, momentAt};
+ghost use Rattle.calendar.specs.Calendar.{moment_of, second_of, within, is_day, is_time, is_date};
+ghost use Rattle.calendar.specs.Inner.{Valid, date_of, moment_at};
 
 use crate::Date;
 use crate::months::{days_before_month, month_length, place_in};
@@ -19,20 +19,20 @@ fn is_within(lo: u64, hi: u64, n: u64) -> bool
 
 fn is_day(year: u64, month: u64, day: u64) -> bool
     requires { (1 ≤ month) × (month ≤ 12) }
-    ensures { result ≡ isDay year month day }
+    ensures { result ≡ is_day year month day }
 {
     is_within(1, month_length(is_leap(year), (month - 1) as usize), day)
 }
 
 fn is_time(hour: u64, minute: u64, second: u64) -> bool
-    ensures { result ≡ isTime hour minute second }
+    ensures { result ≡ is_time hour minute second }
 {
     hour < 24 && (minute < 60 && second < 60)
 }
 
 // Whether the calendar has this date and time of day.
 pub fn is_date(d: Date) -> bool
-    ensures { result ≡ isDate d }
+    ensures { result ≡ is_date d }
 {
     is_within(1, 9999, d.year)
         && (is_within(1, 12, d.month)
@@ -41,7 +41,7 @@ pub fn is_date(d: Date) -> bool
 
 fn moment_of(d: Date) -> u64
     requires { Valid d }
-    ensures { result ≡ momentOf d }
+    ensures { result ≡ moment_of d }
 {
     let days = days_of_years(d.year - 1)
         + days_before_month(is_leap(d.year), (d.month - 1) as usize)
@@ -51,7 +51,7 @@ fn moment_of(d: Date) -> u64
 
 // The second of a date.
 pub fn second_of(d: Date) -> i64
-    requires { isDate d ≡ true }
+    requires { is_date d ≡ true }
     ensures { result ≡ second_of d }
 {
     moment_of(d) as i64 - EPOCH
@@ -59,7 +59,7 @@ pub fn second_of(d: Date) -> i64
 
 fn date_at(n: u64) -> Date
     requires { n < 315537897600 }
-    ensures { result ≡ dateOf n }
+    ensures { result ≡ date_of n }
 {
     let d = n / 86400;
     let t = n % 86400;
@@ -78,7 +78,7 @@ fn date_at(n: u64) -> Date
 // The date of a second of the domain.
 pub fn date_of(s: i64) -> Date
     requires { outside s ≡ false }
-    ensures { result ≡ dateOf (momentAt s) }
+    ensures { result ≡ date_of (moment_at s) }
 {
     date_at((s + EPOCH) as u64)
 }

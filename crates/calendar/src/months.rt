@@ -1,6 +1,6 @@
 // Months, and the days of a year before one. Months and days count from 0 here.
 ghost use Rattle.std.specs.Prelude.{◌≡◌, ◌<◌, get_or, take};
-ghost use Rattle.calendar.specs.Calendar.{lengthsOf, summed};
+ghost use Rattle.calendar.specs.Calendar.{lengths_of, summed};
 ghost use Rattle.calendar.specs.Inner.{part};
 
 // The lengths of the months of a common year.
@@ -15,7 +15,7 @@ pub struct Place {
 
 pub fn month_length(leap: bool, m: usize) -> u64
     requires { m < 12 }
-    ensures { result ≡ get_or (lengthsOf leap) m 0 }
+    ensures { result ≡ get_or (lengths_of leap) m 0 }
 {
     if leap {
         if m == 1 { 29 } else { MONTH_LENGTHS[m] }
@@ -27,7 +27,7 @@ pub fn month_length(leap: bool, m: usize) -> u64
 // The days before month m.
 pub fn days_before_month(leap: bool, m: usize) -> u64
     requires { m < 12 }
-    ensures { result ≡ summed (take m (lengthsOf leap)) }
+    ensures { result ≡ summed (take m (lengths_of leap)) }
 {
     let mut n: u64 = 0;
     let mut i: usize = 0;
@@ -40,8 +40,8 @@ pub fn days_before_month(leap: bool, m: usize) -> u64
 
 // The month, and the day of it, that day d of a year is.
 pub fn place_in(leap: bool, d: u64) -> Place
-    requires { d < summed (lengthsOf leap) }
-    ensures { record { index = result.month; rest = result.day } ≡ part (lengthsOf leap) d }
+    requires { d < summed (lengths_of leap) }
+    ensures { record { index = result.month; rest = result.day } ≡ part (lengths_of leap) d }
 {
     let mut m: usize = 0;
     let mut left = d;

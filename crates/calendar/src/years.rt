@@ -1,7 +1,7 @@
 // Years, and the days before one.
 ghost use Rattle.std.specs.Prelude.{◌≡◌, ◌≤◌, ◌<◌};
-ghost use Rattle.calendar.specs.Calendar.{leap, daysOfYears};
-ghost use Rattle.calendar.specs.Inner.{yearsBefore};
+ghost use Rattle.calendar.specs.Calendar.{leap, days_of_years};
+ghost use Rattle.calendar.specs.Inner.{years_before};
 
 // Whether the year has a 29th of February.
 pub fn is_leap(year: u64) -> bool
@@ -13,7 +13,7 @@ pub fn is_leap(year: u64) -> bool
 // The days of the years 1 to k.
 pub fn days_of_years(k: u64) -> u64
     requires { k ≤ 10000 }
-    ensures { result ≡ daysOfYears k }
+    ensures { result ≡ days_of_years k }
 {
     365 * k + k / 4 - k / 100 + k / 400
 }
@@ -21,7 +21,7 @@ pub fn days_of_years(k: u64) -> u64
 // How many whole years stand before day d, days counted from 0: 400 years have 146,097 days, and a guess by that is right or one too low.
 pub fn years_before(d: u64) -> u64
     requires { d < 3652059 }
-    ensures { result ≡ yearsBefore d }
+    ensures { result ≡ years_before d }
 {
     let k = d * 400 / 146097;
     if d < days_of_years(k + 1) { k } else { k + 1 }

@@ -1,16 +1,16 @@
 // The answer of each public call that gives no table, as numbers.
 ghost use Rattle.std.specs.Prelude.{◌≡◌};
 ghost use Rattle.bits.specs.Read as reading;
-ghost use Rattle.bits.specs.Write.{toldWrite};
-ghost use Rattle.signed.specs.Extend.{toldExtend};
+ghost use Rattle.bits.specs.Write.{told_write};
+ghost use Rattle.signed.specs.Extend.{told_extend};
 ghost use Rattle.encoder.specs.Encode as encoding;
 ghost use Rattle.decoder.specs.Decode as decoding;
-ghost use Rattle.tracker.specs.Refusal.{toldCheck};
-ghost use Rattle.lookup.specs.Found.{toldTs, toldSeq};
-ghost use Rattle.questions.specs.Asked.{toldAsked};
-ghost use Rattle.saving.specs.Save.{toldSave};
-ghost use Rattle.dates.specs.Refusal.{toldWritten, toldRead};
-ghost use Rattle.answers.specs.Answer.{ofCount, ofSigned, ofPiece, ofPlace, ofCheck, ofTs, ofSeq};
+ghost use Rattle.tracker.specs.Refusal.{told_check};
+ghost use Rattle.lookup.specs.Found.{told_ts, told_seq};
+ghost use Rattle.questions.specs.Asked.{told_asked};
+ghost use Rattle.saving.specs.Save.{told_save};
+ghost use Rattle.dates.specs.Refusal.{told_written, told_read};
+ghost use Rattle.answers.specs.Answer.{of_count, of_signed, of_piece, of_place, of_check, of_ts, of_seq};
 
 use crate::{SeqSheetAnswer, TsSheetAnswer};
 use answers::inner::answer;
@@ -27,7 +27,7 @@ use signed::{Extended, as_unsigned};
 use tracker::Checked;
 
 pub fn of_read(read: BitsRead) -> Answer
-    ensures { result ≡ ofPiece (reading.toldRead read) }
+    ensures { result ≡ of_piece (reading.told_read read) }
 {
     match read {
         BitsRead::Value(value, next) => answer(0, value, next.byte as u64, next.bit as u64),
@@ -37,7 +37,7 @@ pub fn of_read(read: BitsRead) -> Answer
 }
 
 pub fn of_written(written: BitsWritten) -> Answer
-    ensures { result ≡ ofPlace (toldWrite written) }
+    ensures { result ≡ of_place (told_write written) }
 {
     match written {
         BitsWritten::Done(next) => answer(0, next.byte as u64, next.bit as u64, 0),
@@ -47,7 +47,7 @@ pub fn of_written(written: BitsWritten) -> Answer
 }
 
 pub fn of_extension(extended: Extended) -> Answer
-    ensures { result ≡ ofSigned (toldExtend extended) }
+    ensures { result ≡ of_signed (told_extend extended) }
 {
     match extended {
         Extended::Value(z) => answer(0, as_unsigned(z), 0, 0),
@@ -56,7 +56,7 @@ pub fn of_extension(extended: Extended) -> Answer
 }
 
 pub fn of_encoded_len(len: EncodedLen) -> Answer
-    ensures { result ≡ ofCount (encoding.toldLen len) }
+    ensures { result ≡ of_count (encoding.told_len len) }
 {
     match len {
         EncodedLen::Bytes(n) => answer(0, n as u64, 0, 0),
@@ -65,7 +65,7 @@ pub fn of_encoded_len(len: EncodedLen) -> Answer
 }
 
 pub fn of_encoded(encoded: Encoded) -> Answer
-    ensures { result ≡ ofCount (encoding.toldEncode encoded) }
+    ensures { result ≡ of_count (encoding.told_encode encoded) }
 {
     match encoded {
         Encoded::Written(n) => answer(0, n as u64, 0, 0),
@@ -74,7 +74,7 @@ pub fn of_encoded(encoded: Encoded) -> Answer
 }
 
 pub fn of_decoded(decoded: Decoded) -> Answer
-    ensures { result ≡ ofCount (decoding.toldDecode decoded) }
+    ensures { result ≡ of_count (decoding.told_decode decoded) }
 {
     match decoded {
         Decoded::Count(n) => answer(0, n as u64, 0, 0),
@@ -83,7 +83,7 @@ pub fn of_decoded(decoded: Decoded) -> Answer
 }
 
 pub fn of_image_len(len: ImageLen) -> Answer
-    ensures { result ≡ ofCount (decoding.toldImageLen len) }
+    ensures { result ≡ of_count (decoding.told_image_len len) }
 {
     match len {
         ImageLen::Bytes(n) => answer(0, n as u64, 0, 0),
@@ -92,7 +92,7 @@ pub fn of_image_len(len: ImageLen) -> Answer
 }
 
 pub fn of_checked(checked: Checked) -> Answer
-    ensures { result ≡ ofCheck (toldCheck checked) }
+    ensures { result ≡ of_check (told_check checked) }
 {
     match checked {
         Checked::Good => answer(0, 0, 0, 0),
@@ -102,7 +102,7 @@ pub fn of_checked(checked: Checked) -> Answer
 
 // Of many questions: nothing is given here, as the answers stand in their places.
 pub fn of_asked(asked: Asked) -> Answer
-    ensures { result ≡ ofCheck (toldAsked asked) }
+    ensures { result ≡ of_check (told_asked asked) }
 {
     match asked {
         Asked::Done => answer(0, 0, 0, 0),
@@ -113,7 +113,7 @@ pub fn of_asked(asked: Asked) -> Answer
 }
 
 pub fn of_ts_sheet(back: TsSheetBack) -> TsSheetAnswer
-    ensures { result ≡ record { answer = ofCheck (toldAsked back.asked); sheet = back.sheet } }
+    ensures { result ≡ record { answer = of_check (told_asked back.asked); sheet = back.sheet } }
 {
     let asked = back.asked;
     let answer = of_asked(asked);
@@ -125,7 +125,7 @@ pub fn of_ts_sheet(back: TsSheetBack) -> TsSheetAnswer
 }
 
 pub fn of_seq_sheet(back: SeqSheetBack) -> SeqSheetAnswer
-    ensures { result ≡ record { answer = ofCheck (toldAsked back.asked); sheet = back.sheet } }
+    ensures { result ≡ record { answer = of_check (told_asked back.asked); sheet = back.sheet } }
 {
     let asked = back.asked;
     let answer = of_asked(asked);
@@ -137,7 +137,7 @@ pub fn of_seq_sheet(back: SeqSheetBack) -> SeqSheetAnswer
 }
 
 pub fn of_found_ts(found: FoundTs) -> Answer
-    ensures { result ≡ ofTs (toldTs found) }
+    ensures { result ≡ of_ts (told_ts found) }
 {
     match found {
         FoundTs::At(s) => answer(0, 1, as_unsigned(s.0), 0),
@@ -147,7 +147,7 @@ pub fn of_found_ts(found: FoundTs) -> Answer
 }
 
 pub fn of_found_seq(found: FoundSeq) -> Answer
-    ensures { result ≡ ofSeq (toldSeq found) }
+    ensures { result ≡ of_seq (told_seq found) }
 {
     match found {
         FoundSeq::At(q) => answer(0, 1, q.0, 0),
@@ -157,7 +157,7 @@ pub fn of_found_seq(found: FoundSeq) -> Answer
 }
 
 pub fn of_saved(saved: Saved) -> Answer
-    ensures { result ≡ ofCount (toldSave saved) }
+    ensures { result ≡ of_count (told_save saved) }
 {
     match saved {
         Saved::Written(n) => answer(0, n as u64, 0, 0),
@@ -167,7 +167,7 @@ pub fn of_saved(saved: Saved) -> Answer
 }
 
 pub fn of_date_written(written: DateWritten) -> Answer
-    ensures { result ≡ ofCount (toldWritten written) }
+    ensures { result ≡ of_count (told_written written) }
 {
     match written {
         DateWritten::Written(n) => answer(0, n as u64, 0, 0),
@@ -176,7 +176,7 @@ pub fn of_date_written(written: DateWritten) -> Answer
 }
 
 pub fn of_date_read(read: DateRead) -> Answer
-    ensures { result ≡ ofSigned (toldRead read) }
+    ensures { result ≡ of_signed (told_read read) }
 {
     match read {
         DateRead::At(s) => answer(0, as_unsigned(s.0), 0, 0),

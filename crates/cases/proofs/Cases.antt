@@ -4,45 +4,45 @@ use mathlib.Core.List.{[], ◌∷◌}
 use Prim.Native.Nat.{zero, suc}
 use native.Mathlib.Omega.{arith}
 use lib.IntN.{pos}
-use Rattle.order.specs.First.{firstFrom, last_or}
-use Rattle.bit_lists.specs.BitList.{natBits, bits_of, natFrom, bytes_of, packed}
-use Rattle.bits.specs.Place.{posOf}
-use Rattle.bits.specs.Read.{readRule}
-use Rattle.gorilla.specs.Format.{codeBits, codesBits, valuesBits, arrayBits, le_bytes, imageBytes}
-use Rattle.gorilla.specs.Parser.{takeBits}
-use Rattle.gorilla.specs.Reading.{cutNumber, count_ones, read_code, readCodes, valuesAfter, readValues, readArray, leCount, readPart, readPairs}
-use Rattle.gorilla.specs.Rows.{rowOf, strict}
-use Rattle.gorilla.specs.Wide.{wideAfter, wideIn, wide_of}
+use Rattle.order.specs.First.{first_from, last_or}
+use Rattle.bit_lists.specs.BitList.{nat_bits, bits_of, nat_from, bytes_of, packed}
+use Rattle.bits.specs.Place.{pos_of}
+use Rattle.bits.specs.Read.{read_rule}
+use Rattle.gorilla.specs.Format.{code_bits, codes_bits, values_bits, array_bits, le_bytes, image_bytes}
+use Rattle.gorilla.specs.Parser.{take_bits}
+use Rattle.gorilla.specs.Reading.{cut_number, count_ones, read_code, read_codes, values_after, read_values, read_array, le_count, read_part, read_pairs}
+use Rattle.gorilla.specs.Rows.{row_of, strict}
+use Rattle.gorilla.specs.Wide.{wide_after, wide_in, wide_of}
 use Rattle.keeping.specs.Keep.{evens}
 use Rattle.log.specs.Log.{run_of}
-use Rattle.log.specs.Pairs.{recordsOf}
-use Rattle.encoder.specs.Encode.{arraysRule}
-use Rattle.told.specs.Room.{roomRule}
+use Rattle.log.specs.Pairs.{records_of}
+use Rattle.encoder.specs.Encode.{arrays_rule}
+use Rattle.told.specs.Room.{room_rule}
 use Rattle.decoder.specs.Decode.{listed}
-use Rattle.text.specs.Text.{digits, decimal, signedDecimal}
-use Rattle.report.specs.Lines.{line, lines, entriesText, refusedText}
-use Rattle.report.specs.Listing.{listingOf}
+use Rattle.text.specs.Text.{digits, decimal, signed_decimal}
+use Rattle.report.specs.Lines.{line, lines, entries_text, refused_text}
+use Rattle.report.specs.Listing.{listing_of}
 use Rattle.report.specs.Dated.{DatedListing}
-use Rattle.calendar.specs.Calendar.{leap, lengthsOf, daysOfYears, summed}
-use Rattle.calendar.specs.Inner.{part, yearsBefore, dateOf, momentAt}
-use Rattle.date_writer.specs.DateText.{textOf, AllDated}
-use Rattle.date_writer.specs.Inner.{dateText}
-use Rattle.date_writer.proofs.Texts.{dated-text}
-use Rattle.theorems.specs.Run.{step, ranTo}
+use Rattle.calendar.specs.Calendar.{leap, lengths_of, days_of_years, summed}
+use Rattle.calendar.specs.Inner.{part, years_before, date_of, moment_at}
+use Rattle.date_writer.specs.DateText.{text_of, AllDated}
+use Rattle.date_writer.specs.Inner.{date_text}
+use Rattle.date_writer.proofs.Texts.{dated_text}
+use Rattle.theorems.specs.Run.{step, ran_to}
 use Rattle.cases.specs.Cases.{Cases}
-use Rattle.cases.proofs.DateCases.{date-cases}
-use Rattle.cases.proofs.HalvingCases.{halving-cases}
-use Rattle.cases.proofs.QuestionCases.{question-cases}
-use Rattle.cases.proofs.WhyCases.{why-cases}
+use Rattle.cases.proofs.DateCases.{date_cases}
+use Rattle.cases.proofs.HalvingCases.{halving_cases}
+use Rattle.cases.proofs.QuestionCases.{question_cases}
+use Rattle.cases.proofs.WhyCases.{why_cases}
 
 -- the dates of P5
-fifth-dated : AllDated dateText (pos 0 ∷ pos 60 ∷ [])
-fifth-dated zero l = dated-text (pos 0) refl
-fifth-dated (suc zero) l = dated-text (pos 60) refl
+fifth-dated : AllDated date_text (pos 0 ∷ pos 60 ∷ [])
+fifth-dated zero l = dated_text (pos 0) refl
+fifth-dated (suc zero) l = dated_text (pos 60) refl
 fifth-dated (suc (suc i)) l = absurd (omega arith)
 
 pub cases : Cases
-unfolding readRule posOf arraysRule roomRule imageBytes le_bytes arrayBits valuesBits codesBits codeBits rowOf packed bytes_of natFrom natBits wide_of wideIn wideAfter strict ranTo step run_of recordsOf firstFrom evens last_or listed readPairs readPart leCount readArray readValues valuesAfter readCodes read_code count_ones cutNumber takeBits bits_of digits decimal signedDecimal line lines entriesText refusedText listingOf DatedListing textOf leap lengthsOf summed daysOfYears part yearsBefore dateOf momentAt
+unfolding read_rule pos_of arrays_rule room_rule image_bytes le_bytes array_bits values_bits codes_bits code_bits row_of packed bytes_of nat_from nat_bits wide_of wide_in wide_after strict ran_to step run_of records_of first_from evens last_or listed read_pairs read_part le_count read_array read_values values_after read_codes read_code count_ones cut_number take_bits bits_of digits decimal signed_decimal line lines entries_text refused_text listing_of DatedListing text_of leap lengths_of summed days_of_years part years_before date_of moment_at
 cases = record {
   extension = (refl, refl);
   extension-edges = (refl, refl, refl, refl, refl, refl);
@@ -53,7 +53,7 @@ cases = record {
   accepted = (refl, refl);
   P5 = (refl, refl);
   listing = refl;
-  listing-dates = ((dateText, fifth-dated, refl), refl);
+  listing-dates = ((date_text, fifth-dated, refl), refl);
   padding = (refl, refl, refl);
   P6 = (refl, refl);
   P7 = (refl, refl, refl);
@@ -64,7 +64,7 @@ cases = record {
   defaults = (refl, refl, (refl, refl));
   restored = (refl, refl, refl);
   restore-order = (refl, refl, refl, refl);
-  own-interval = (refl, (refl, refl));
+  own_interval = (refl, (refl, refl));
   again = (refl, (refl, refl));
   log = refl;
   tally = refl;
@@ -74,7 +74,7 @@ cases = record {
   totals-full-no-record = (refl, refl);
   P12 = (refl, refl, refl, refl);
   equal-seconds = ((refl, refl), (refl, refl), (refl, refl));
-  equal-sequences = (refl, refl);
+  equal_sequences = (refl, refl);
   equals-first = ((refl, refl), (refl, refl));
   equals-last = ((refl, refl), (refl, refl));
   all-equal = ((refl, refl), (refl, refl), (refl, refl), (refl, refl));
@@ -83,8 +83,8 @@ cases = record {
   cut_off = (refl, refl, refl, refl, refl, refl, refl);
   bits_left = (refl, refl, refl, refl, refl);
   order = (refl, refl);
-  dates = date-cases;
-  halving = halving-cases;
-  questions = question-cases;
-  reasons = why-cases;
+  dates = date_cases;
+  halving = halving_cases;
+  questions = question_cases;
+  reasons = why_cases;
 }

@@ -1,22 +1,22 @@
 -- The cases of dates, by computation.
 use mathlib.Core.Path.{refl}
 use Prim.Native.Nat.{ℕ}
-use Rattle.told.specs.Room.{roomRule}
+use Rattle.told.specs.Room.{room_rule}
 use Rattle.calendar.specs.declared.Date.{Date}
-use Rattle.calendar.specs.Calendar.{leap, lengthsOf, summed, daysOfYears, isDay, isTime, isDate}
-use Rattle.date_writer.specs.DateText.{textOf}
-use Rattle.text_reader.specs.Digits.{isDigit}
-use Rattle.date_reader.specs.Grammar.{moreDigits, either, up_to, fraction, offset, end, dateTime}
-use Rattle.dates.specs.Read.{isOffset, offset_of, judged}
-use Rattle.dates.specs.Write.{writeDate}
+use Rattle.calendar.specs.Calendar.{leap, lengths_of, summed, days_of_years, is_day, is_time, is_date}
+use Rattle.date_writer.specs.DateText.{text_of}
+use Rattle.text_reader.specs.Digits.{is_digit}
+use Rattle.date_reader.specs.Grammar.{more_digits, either, up_to, fraction, offset, end, date_time}
+use Rattle.dates.specs.Read.{is_offset, offset_of, judged}
+use Rattle.dates.specs.Write.{write_date}
 use Rattle.cases.specs.DateCases.{DateCases}
 
 abbrev at : ℕ → ℕ → ℕ → ℕ → ℕ → ℕ → Date
 at y m d h n s = record { year = y; month = m; day = d; hour = h; minute = n; second = s }
 
-pub date-cases : DateCases
-unfolding roomRule leap lengthsOf summed daysOfYears isDay isTime isDate textOf isDigit moreDigits either up_to fraction offset end dateTime isOffset offset_of judged writeDate
-date-cases = record {
+pub date_cases : DateCases
+unfolding room_rule leap lengths_of summed days_of_years is_day is_time is_date text_of is_digit more_digits either up_to fraction offset end date_time is_offset offset_of judged write_date
+date_cases = record {
   epoch = ((at 1970 1 1 0 0 0, (refl, refl), refl), refl);
   ends = (((at 1 1 1 0 0 0, (refl, refl), refl), refl), ((at 9999 12 31 23 59 59, (refl, refl), refl), refl));
   leap-days = (((at 2000 2 29 0 0 0, (refl, refl), refl), refl), ((at 2024 2 29 0 0 0, (refl, refl), refl), refl), refl, refl);
@@ -33,6 +33,6 @@ date-cases = record {
   no-such-date = (refl, refl, refl, refl, refl, refl, refl);
   no-such-time = (refl, refl, refl, refl, refl);
   outside = (refl, refl, refl, refl, refl);
-  reading-order = (refl, refl, refl, refl);
+  reading_order = (refl, refl, refl, refl);
   writing-order = (refl, refl, refl, refl, refl);
 }

@@ -4,15 +4,15 @@ use Prim.Native.String.{String}
 use Rattle.told.specs.Told.{gave, refused}
 use Rattle.text.specs.Ascii.{ascii}
 use Rattle.date_writer.specs.DateText.{Dated}
-use Rattle.dates.specs.Read.{readDate}
-use Rattle.dates.specs.Write.{writeDate}
+use Rattle.dates.specs.Read.{read_date}
+use Rattle.dates.specs.Write.{write_date}
 
 -- `read_date` of this text gives this second, or refuses with this number
 abbrev pub Reads : String → ℤ → Type 0
-Reads text z = readDate (ascii text) ≡ gave z
+Reads text z = read_date (ascii text) ≡ gave z
 
 abbrev pub Refuses : String → ℕ → Type 0
-Refuses text number = readDate (ascii text) ≡ refused (number ∷ [])
+Refuses text number = read_date (ascii text) ≡ refused (number ∷ [])
 
 -- this second has this text, which reads back
 abbrev pub Both : ℤ → String → Type 0
@@ -60,8 +60,8 @@ pub record DateCases : Type 0 where
       Refuses "0001-01-01T00:00:00+00:01" 27 × Refuses "9999-12-31T23:59:59-00:01" 27 × Refuses "0000-12-31T23:59:59-00:01" 26
       × Reads "0001-01-01T00:00:00-00:01" (neg_ℤ (pos 62135596740)) × Reads "9999-12-31T23:59:59+00:01" (pos 253402300739)
   -- 25 before 26, and 26 before 27, where both hold
-  pub reading-order : Refuses "0000-13-32T24:60:60" 25 × Refuses "2001-02-29T00:00:00Zx" 25 × Refuses "9999-12-31T23:59:60-00:01" 26 × Refuses "0001-01-01T00:00:00+24:01" 26
+  pub reading_order : Refuses "0000-13-32T24:60:60" 25 × Refuses "2001-02-29T00:00:00Zx" 25 × Refuses "9999-12-31T23:59:60-00:01" 26 × Refuses "0001-01-01T00:00:00+24:01" 26
   -- writing: 27 before 21, which tells the bytes needed; twenty bytes suffice
   pub writing-order :
-      (writeDate (pos 253402300800) 0 ≡ refused (27 ∷ [])) × (writeDate (neg_ℤ (pos 62135596801)) 64 ≡ refused (27 ∷ []))
-      × (writeDate (pos 253402300799) 19 ≡ refused (21 ∷ 20 ∷ [])) × (writeDate (pos 0) 20 ≡ gave 20) × (writeDate (pos 0) 64 ≡ gave 20)
+      (write_date (pos 253402300800) 0 ≡ refused (27 ∷ [])) × (write_date (neg_ℤ (pos 62135596801)) 64 ≡ refused (27 ∷ []))
+      × (write_date (pos 253402300799) 19 ≡ refused (21 ∷ 20 ∷ [])) × (write_date (pos 0) 20 ≡ gave 20) × (write_date (pos 0) 64 ≡ gave 20)

@@ -13,24 +13,24 @@ use Rattle.code_reader.specs.declared.Refusal.{Refusal}
 use Rattle.code_reader.specs.declared.Refusal.TheVariants.{Empty, Version, Header, CountCut, TooMany, FirstCut, CodeEnd, PrefixCut, DiffCut, CountDiffers}
 
 -- the place that two numbers of a list are, from the k-th on
-abbrev placeFrom : List ℕ → ℕ → Place
-placeFrom l k = record { byte = get_or l k 0; bit = get_or l (k + 1) 0 }
+abbrev place_from : List ℕ → ℕ → Place
+place_from l k = record { byte = get_or l k 0; bit = get_or l (k + 1) 0 }
 
 -- the refusal that a number and what it tells are
-abbrev refusalOf : List ℕ → Refusal
-refusalOf k =
+abbrev refusal_of : List ℕ → Refusal
+refusal_of k =
     cond (eqb (get_or k 0 0) 1) Empty
     (cond (eqb (get_or k 0 0) 2) (Version (get_or k 1 0))
     (cond (eqb (get_or k 0 0) 3) Header
-    (cond (eqb (get_or k 0 0) 4) (CountCut (array_of (get_or k 1 0)) (placeFrom k 2))
-    (cond (eqb (get_or k 0 0) 5) (FirstCut (array_of (get_or k 1 0)) (placeFrom k 2))
-    (cond (eqb (get_or k 0 0) 6) (CodeEnd (array_of (get_or k 1 0)) (get_or k 2 0) (placeFrom k 3))
-    (cond (eqb (get_or k 0 0) 7) (PrefixCut (array_of (get_or k 1 0)) (get_or k 2 0) (placeFrom k 3))
-    (cond (eqb (get_or k 0 0) 8) (DiffCut (array_of (get_or k 1 0)) (get_or k 2 0) (get_or k 3 0) (placeFrom k 4))
+    (cond (eqb (get_or k 0 0) 4) (CountCut (array_of (get_or k 1 0)) (place_from k 2))
+    (cond (eqb (get_or k 0 0) 5) (FirstCut (array_of (get_or k 1 0)) (place_from k 2))
+    (cond (eqb (get_or k 0 0) 6) (CodeEnd (array_of (get_or k 1 0)) (get_or k 2 0) (place_from k 3))
+    (cond (eqb (get_or k 0 0) 7) (PrefixCut (array_of (get_or k 1 0)) (get_or k 2 0) (place_from k 3))
+    (cond (eqb (get_or k 0 0) 8) (DiffCut (array_of (get_or k 1 0)) (get_or k 2 0) (get_or k 3 0) (place_from k 4))
     (cond (eqb (get_or k 0 0) 9) (CountDiffers (array_of (get_or k 1 0)))
     (TooMany (array_of (get_or k 1 0)))))))))))
 
-refusal-back : (r : Refusal) → refusalOf (told r) ≡ r
+refusal-back : (r : Refusal) → refusal_of (told r) ≡ r
 refusal-back Empty = refl
 refusal-back (Version b) = refl
 refusal-back Header = refl
@@ -44,4 +44,4 @@ refusal-back (TooMany a) = ap TooMany (array_back a)
 
 -- refusals of which the same is told are the same
 pub one-refusal : (a b : Refusal) → told a ≡ told b → a ≡ b
-one-refusal a b h = sym (refusal-back a) ∙ ap refusalOf h ∙ refusal-back b
+one-refusal a b h = sym (refusal-back a) ∙ ap refusal_of h ∙ refusal-back b

@@ -31,13 +31,13 @@ missed a i m.Prefix = 7 ∷ a ∷ i ∷ []
 missed a i (m.Diff width) = 8 ∷ a ∷ i ∷ width ∷ []
 
 -- ---- answers as what a reader gives, of the bytes xs from bit q on, for index i of array a
-abbrev pub toldPrefix : List ℕ → ℕ → ℕ → ℕ → Prefix → Read ℕ
-toldPrefix xs q a i (p.Ones n) = read n (drop (q + min (n + 1) 4) (bits_of xs))
-toldPrefix xs q a i (p.Cut m) = refused (missed a i m)
+abbrev pub told_prefix : List ℕ → ℕ → ℕ → ℕ → Prefix → Read ℕ
+told_prefix xs q a i (p.Ones n) = read n (drop (q + min (n + 1) 4) (bits_of xs))
+told_prefix xs q a i (p.Cut m) = refused (missed a i m)
 
-abbrev pub toldCode : List ℕ → ℕ → ℕ → ℕ → CodeRead → Read ℤ
-toldCode xs q a i (c.Diff d n) = read d (drop (q + n) (bits_of xs))
-toldCode xs q a i (c.Cut m left) = refused (with (missed a i m) (place_of (length xs * 8 - left)))
+abbrev pub told_code : List ℕ → ℕ → ℕ → ℕ → CodeRead → Read ℤ
+told_code xs q a i (c.Diff d n) = read d (drop (q + n) (bits_of xs))
+told_code xs q a i (c.Cut m left) = refused (with (missed a i m) (place_of (length xs * 8 - left)))
 
 -- a prefix has at most four ones, and its bits are bits of w; where one is cut off, w has fewer than four
 abbrev pub WithinPrefix : Window → Prefix → Type 0
@@ -51,8 +51,8 @@ WithinCode w (c.Cut m left) = left ≤ w.have
 
 -- r is the prefix, whatever bytes w has bits of, and of whatever index
 abbrev pub ReadsPrefix : Window → Prefix → Type 0
-ReadsPrefix w r = WithinPrefix w r × ((xs : List ℕ) (q a i : ℕ) → Holds xs q w → toldPrefix xs q a i r ≡ count_ones a i 4 0 (drop q (bits_of xs)))
+ReadsPrefix w r = WithinPrefix w r × ((xs : List ℕ) (q a i : ℕ) → Holds xs q w → told_prefix xs q a i r ≡ count_ones a i 4 0 (drop q (bits_of xs)))
 
 -- r is its code
 abbrev pub ReadsCode : Window → CodeRead → Type 0
-ReadsCode w r = WithinCode w r × ((xs : List ℕ) (q a i : ℕ) → Holds xs q w → toldCode xs q a i r ≡ read_code (length xs * 8) a i (drop q (bits_of xs)))
+ReadsCode w r = WithinCode w r × ((xs : List ℕ) (q a i : ℕ) → Holds xs q w → told_code xs q a i r ≡ read_code (length xs * 8) a i (drop q (bits_of xs)))

@@ -1,6 +1,6 @@
 -- The number of docs/RULES.md, "Refusals", for each refusal of a reader.
 use Rattle.std.specs.Prelude.{ℕ, List, [], ◌∷◌}
-use Rattle.gorilla.specs.Array.{arrayNo}
+use Rattle.gorilla.specs.Array.{array_no}
 use Rattle.code_reader.specs.declared.Refusal.{Refusal}
 use Rattle.code_reader.specs.declared.Refusal.TheVariants.{Empty, Version, Header, CountCut, TooMany, FirstCut, CodeEnd, PrefixCut, DiffCut, CountDiffers}
 
@@ -9,10 +9,10 @@ abbrev pub told : Refusal → List ℕ
 told Empty = 1 ∷ []
 told (Version byte) = 2 ∷ byte ∷ []
 told Header = 3 ∷ []
-told (CountCut a at) = 4 ∷ arrayNo a ∷ at.byte ∷ at.bit ∷ []
-told (FirstCut a at) = 5 ∷ arrayNo a ∷ at.byte ∷ at.bit ∷ []
-told (CodeEnd a i at) = 6 ∷ arrayNo a ∷ i ∷ at.byte ∷ at.bit ∷ []
-told (PrefixCut a i at) = 7 ∷ arrayNo a ∷ i ∷ at.byte ∷ at.bit ∷ []
-told (DiffCut a i width at) = 8 ∷ arrayNo a ∷ i ∷ width ∷ at.byte ∷ at.bit ∷ []
-told (CountDiffers a) = 9 ∷ arrayNo a ∷ []
-told (TooMany a) = 10 ∷ arrayNo a ∷ []
+told (CountCut a at) = 4 ∷ array_no a ∷ at.byte ∷ at.bit ∷ []
+told (FirstCut a at) = 5 ∷ array_no a ∷ at.byte ∷ at.bit ∷ []
+told (CodeEnd a i at) = 6 ∷ array_no a ∷ i ∷ at.byte ∷ at.bit ∷ []
+told (PrefixCut a i at) = 7 ∷ array_no a ∷ i ∷ at.byte ∷ at.bit ∷ []
+told (DiffCut a i width at) = 8 ∷ array_no a ∷ i ∷ width ∷ at.byte ∷ at.bit ∷ []
+told (CountDiffers a) = 9 ∷ array_no a ∷ []
+told (TooMany a) = 10 ∷ array_no a ∷ []

@@ -1,6 +1,6 @@
 // What of a code is missing, and the refusal that tells so of an index.
 ghost use Rattle.std.specs.Prelude.{◌≡◌};
-ghost use Rattle.gorilla.specs.Array.{arrayNo};
+ghost use Rattle.gorilla.specs.Array.{array_no};
 ghost use Rattle.gorilla.specs.Parser.{with};
 ghost use Rattle.code_reader.specs.Inner.{missed};
 ghost use Rattle.code_reader.specs.Refusal.{told};
@@ -22,7 +22,7 @@ pub enum Missing {
 
 // The refusal at an index whose code begins at a place.
 pub fn refusal_of(missing: Missing, array: Array, index: usize, at: Place) -> Refusal
-    ensures { told result ≡ with (missed (arrayNo array) index missing) at }
+    ensures { told result ≡ with (missed (array_no array) index missing) at }
 {
     match missing {
         Missing::Code => Refusal::CodeEnd(array, index, at),

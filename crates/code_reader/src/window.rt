@@ -1,6 +1,6 @@
 // The bits at a place: eight bytes from the place's byte on, or what is left of the input.
 ghost use Rattle.std.specs.Prelude.{◌≡◌, ◌≤◌, min, length};
-ghost use Rattle.bits.specs.Place.{posOf};
+ghost use Rattle.bits.specs.Place.{pos_of};
 ghost use Rattle.code_reader.specs.Inner.{Holds, Zeros};
 
 use bits::Place;
@@ -22,7 +22,7 @@ pub fn least(a: usize, b: usize) -> usize
 // The window at a place. Near the end it is made of the last eight bytes, less those before the place.
 pub fn window_at(s: &[u8], at: Place) -> Window
     requires { 8 ≤ length s.now }
-    ensures { Holds s.now (posOf (length s.now) at) result }
+    ensures { Holds s.now (pos_of (length s.now) at) result }
 {
     let byte = at.byte;
     let bit = at.bit;

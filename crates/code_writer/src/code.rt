@@ -1,10 +1,10 @@
 // The bits of codes, and bits written at a place.
 ghost use Rattle.std.specs.Prelude.{◌≡◌, true, ◌+◌, ◌*◌, ◌^◌, ◌≤◌, ◌<◌, length, pos};
 ghost use Rattle.bits.specs.Place.{place_of};
-ghost use Rattle.bit_lists.specs.BitList.{natBits};
-ghost use Rattle.raw_bits.specs.Inner.{putList};
-ghost use Rattle.gorilla.specs.Format.{codeBits};
-ghost use Rattle.code_writer.specs.Inner.{heldBits, Fits};
+ghost use Rattle.bit_lists.specs.BitList.{nat_bits};
+ghost use Rattle.raw_bits.specs.Inner.{put_list};
+ghost use Rattle.gorilla.specs.Format.{code_bits};
+ghost use Rattle.code_writer.specs.Inner.{held_bits, Fits};
 
 use crate::Held;
 use bits::Place;
@@ -16,7 +16,7 @@ use signed::inner::low_bits;
 pub fn put(buf: &mut [u8], at: Place, value: u64, width: u8) -> Place
     requires { (at.bit < 8) × (width ≤ 64) × (at.byte * 8 + at.bit + width ≤ length buf.old * 8) }
     ensures place { result ≡ place_of (at.byte * 8 + at.bit + width) }
-    ensures buf { buf.new ≡ putList buf.old (at.byte * 8 + at.bit) (natBits width value) }
+    ensures buf { buf.new ≡ put_list buf.old (at.byte * 8 + at.bit) (nat_bits width value) }
 {
     put_bits(buf, at.byte, at.bit, value, width);
     after(at, width)
@@ -35,7 +35,7 @@ pub fn joined(a: Held, b: Held) -> Held
 
 // The bits of a difference's code: the prefix of its row, and the low bits after it.
 pub fn code_of(dod: i64) -> Held
-    ensures bits { heldBits result ≡ codeBits dod }
+    ensures bits { held_bits result ≡ code_bits dod }
     ensures size { Fits result × (result.width ≤ 36) }
 {
     let row = row_of(dod);

@@ -2,7 +2,7 @@
 use Rattle.std.specs.Prelude.{ℕ, zero, suc, ◌+◌, ◌-◌, ◌*◌, Bool, true, false, cond, ◌||◌, [], ◌∷◌, eqb}
 use Prim.Native.Char.{code}
 use Rattle.gorilla.specs.Parser.{Read, read, refused, Reader, ◌>>=◌, ◌>>◌, give}
-use Rattle.text_reader.specs.Digits.{isDigit}
+use Rattle.text_reader.specs.Digits.{is_digit}
 use Rattle.calendar.specs.declared.Date.{Date}
 use Rattle.date_reader.specs.declared.Zone.{Zone}
 
@@ -10,14 +10,14 @@ abbrev pub bad : {A : Type 0} → Read A
 bad = refused (25 ∷ [])
 
 -- k digits, which follow those of the number n
-unfoldable pub moreDigits : ℕ → ℕ → Reader ℕ
-moreDigits zero n s = read n s
-moreDigits (suc k) n [] = bad
-moreDigits (suc k) n (x ∷ s) = cond (isDigit x) (moreDigits k (n * 10 + (x - code "0")) s) bad
+unfoldable pub more_digits : ℕ → ℕ → Reader ℕ
+more_digits zero n s = read n s
+more_digits (suc k) n [] = bad
+more_digits (suc k) n (x ∷ s) = cond (is_digit x) (more_digits k (n * 10 + (x - code "0")) s) bad
 
 -- 4DIGIT, 2DIGIT
 abbrev pub number : ℕ → Reader ℕ
-number k = moreDigits k 0
+number k = more_digits k 0
 
 -- one of two bytes, which are a letter in either case
 unfoldable pub either : ℕ → ℕ → Reader (Unit {0})
@@ -31,21 +31,21 @@ byte a = either a a
 unfoldable pub up_to : ℕ → Reader (Unit {0})
 up_to zero s = read tt s
 up_to (suc k) [] = read tt []
-up_to (suc k) (x ∷ s) = cond (isDigit x) (up_to k s) (read tt (x ∷ s))
+up_to (suc k) (x ∷ s) = cond (is_digit x) (up_to k s) (read tt (x ∷ s))
 
-abbrev pub oneToNine : Reader (Unit {0})
-oneToNine = do
+abbrev pub one_to_nine : Reader (Unit {0})
+one_to_nine = do
   number 1
   up_to 8
 
 -- [time-secfrac]: nothing, or "." and one to nine digits, which are left out
 unfoldable pub fraction : Reader (Unit {0})
 fraction [] = read tt []
-fraction (x ∷ s) = cond (eqb x (code ".")) (oneToNine s) (read tt (x ∷ s))
+fraction (x ∷ s) = cond (eqb x (code ".")) (one_to_nine s) (read tt (x ∷ s))
 
 -- time-numoffset after its sign: "+" says that the local time is ahead of UTC
-abbrev pub numOffset : Bool → Reader Zone
-numOffset ahead = do
+abbrev pub num_offset : Bool → Reader Zone
+num_offset ahead = do
   hours ← number 2
   byte (code ":")
   minutes ← number 2
@@ -56,8 +56,8 @@ unfoldable pub offset : Reader Zone
 offset [] = bad
 offset (x ∷ s) =
     cond (eqb x (code "Z") || eqb x (code "z")) (read (record { ahead = true; hours = 0; minutes = 0 }) s)
-    (cond (eqb x (code "+")) (numOffset true s)
-    (cond (eqb x (code "-")) (numOffset false s) bad))
+    (cond (eqb x (code "+")) (num_offset true s)
+    (cond (eqb x (code "-")) (num_offset false s) bad))
 
 -- no byte follows
 unfoldable pub end : Reader (Unit {0})
@@ -70,8 +70,8 @@ pub record Stamp : Type 0 where
   pub zone : Zone
 
 -- date-time = full-date "T" full-time, and nothing after it
-unfoldable pub dateTime : Reader Stamp
-dateTime = do
+unfoldable pub date_time : Reader Stamp
+date_time = do
   year ← number 4
   byte (code "-")
   month ← number 2

@@ -9,7 +9,7 @@ use Rattle.date_reader.specs.declared.steps.ZoneRead.{ZoneRead}
 use Rattle.date_reader.specs.declared.steps.ZoneRead.TheVariants as zone
 use Rattle.date_reader.specs.declared.StampRead.{StampRead}
 use Rattle.date_reader.specs.declared.StampRead.TheVariants as stamp
-use Rattle.date_reader.specs.Grammar.{bad, number, either, up_to, fraction, numOffset, offset, end, Stamp, dateTime}
+use Rattle.date_reader.specs.Grammar.{bad, number, either, up_to, fraction, num_offset, offset, end, Stamp, date_time}
 
 -- the number of k digits from a place on; above 9999 where they are not there
 pub record NumberAt (s : List ℕ) (at k r : ℕ) : Type 0 where
@@ -32,8 +32,8 @@ abbrev pub after_head : Date → List ℕ → Read Stamp
 after_head d s = and_then (fraction s) (λ _ s. ended d (offset s))
 
 abbrev pub HeadAt : List ℕ → HeadRead → Type 0
-HeadAt s (head.At d) = (19 ≤ length s) × (dateTime s ≡ after_head d (drop 19 s))
-HeadAt s head.Nothing = dateTime s ≡ bad
+HeadAt s (head.At d) = (19 ≤ length s) × (date_time s ≡ after_head d (drop 19 s))
+HeadAt s head.Nothing = date_time s ≡ bad
 
 -- the place after up to eight more digits
 abbrev pub MoreAt : List ℕ → ℕ → ℕ → Type 0
@@ -50,12 +50,12 @@ zoned d (zone.At z) = read (record { date = d; zone = z }) []
 zoned d zone.Nothing = bad
 
 abbrev pub OffsetAt : List ℕ → ℕ → Bool → ZoneRead → Type 0
-OffsetAt s at ahead r = (d : Date) → ended d (numOffset ahead (drop at s)) ≡ zoned d r
+OffsetAt s at ahead r = (d : Date) → ended d (num_offset ahead (drop at s)) ≡ zoned d r
 
 abbrev pub ZoneAt : List ℕ → ℕ → ZoneRead → Type 0
 ZoneAt s at r = (d : Date) → ended d (offset (drop at s)) ≡ zoned d r
 
 -- the whole text
-abbrev pub toldStamp : StampRead → Read Stamp
-toldStamp (stamp.At d z) = read (record { date = d; zone = z }) []
-toldStamp stamp.NotTheGrammar = bad
+abbrev pub told_stamp : StampRead → Read Stamp
+told_stamp (stamp.At d z) = read (record { date = d; zone = z }) []
+told_stamp stamp.NotTheGrammar = bad

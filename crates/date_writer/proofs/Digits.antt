@@ -8,10 +8,10 @@ use lib.IntN.{ℤ}
 use lib.ListN.{get_or}
 use Rattle.limits.specs.Domain.{outside}
 use Rattle.calendar.specs.declared.Date.{Date}
-use Rattle.calendar.specs.Calendar.{leap, lengthsOf}
-use Rattle.calendar.specs.Inner.{Valid, dateOf, momentAt}
-use Rattle.calendar.proofs.Moments.{moment-below}
-use Rattle.calendar.proofs.Trip.{date-valid}
+use Rattle.calendar.specs.Calendar.{leap, lengths_of}
+use Rattle.calendar.specs.Inner.{Valid, date_of, moment_at}
+use Rattle.calendar.proofs.Moments.{moment_below}
+use Rattle.calendar.proofs.Trip.{date_valid}
 use Rattle.date_writer.specs.Inner.{Digits}
 
 abbrev Every : List ℕ → ℕ → Type 0
@@ -25,16 +25,16 @@ bounded (n ∷ ns) b zero e = e.0
 bounded (n ∷ ns) b (suc i) e = bounded ns b i e.1
 
 -- no month has more than 31 days
-days-31 : (l : Bool) (m : ℕ) → get_or (lengthsOf l) m 0 ≤ 31
-unfolding lengthsOf
-days-31 true m = bounded (lengthsOf true) 31 m (omega arith)
-days-31 false m = bounded (lengthsOf false) 31 m (omega arith)
+days_31 : (l : Bool) (m : ℕ) → get_or (lengths_of l) m 0 ≤ 31
+unfolding lengths_of
+days_31 true m = bounded (lengths_of true) 31 m (omega arith)
+days_31 false m = bounded (lengths_of false) 31 m (omega arith)
 
-pub valid-digits : (d : Date) → Valid d → Digits d.year d.month d.day d.hour d.minute d.second
-valid-digits d v = (
+pub valid_digits : (d : Date) → Valid d → Digits d.year d.month d.day d.hour d.minute d.second
+valid_digits d v = (
   omega (arith, v.year),
   omega (arith, v.month),
-  omega (arith, v.day, days-31 (leap d.year) (d.month - 1)),
+  omega (arith, v.day, days_31 (leap d.year) (d.month - 1)),
   omega (arith, v.time.0),
   omega (arith, v.time.1),
   omega (arith, v.time.2),
@@ -43,5 +43,5 @@ valid-digits d v = (
 abbrev DigitsOf : Date → Type 0
 DigitsOf d = Digits d.year d.month d.day d.hour d.minute d.second
 
-pub digits_of : (z : ℤ) → outside z ≡ false → DigitsOf (dateOf (momentAt z))
-digits_of z h = valid-digits (dateOf (momentAt z)) (date-valid (momentAt z) (moment-below z h))
+pub digits_of : (z : ℤ) → outside z ≡ false → DigitsOf (date_of (moment_at z))
+digits_of z h = valid_digits (date_of (moment_at z)) (date_valid (moment_at z) (moment_below z h))

@@ -11,29 +11,29 @@ use lib.ListN.{length, get_or}
 use lib.Signed.{lt_z}
 use Rattle.limits.specs.Domain.{outside}
 use Rattle.calendar.specs.declared.Date.{Date}
-use Rattle.calendar.specs.Inner.{dateOf, momentAt}
+use Rattle.calendar.specs.Inner.{date_of, moment_at}
 use Rattle.calendar.specs.Laws.{numbers, before}
 use Rattle.calendar.proofs.Order.{by_first}
-use Rattle.calendar.proofs.Laws.{is-date-of, one-date, calendar}
-use Rattle.date_writer.specs.DateText.{two, four, textOf, Dated, AllDated}
-use Rattle.date_writer.specs.Inner.{dateText}
+use Rattle.calendar.proofs.Laws.{is_date-of, one_date, calendar}
+use Rattle.date_writer.specs.DateText.{two, four, text_of, Dated, AllDated}
+use Rattle.date_writer.specs.Inner.{date_text}
 
-pub text-length : (d : Date) → length (textOf d) ≡ 20
-unfolding textOf
-text-length d = refl
+pub text_length : (d : Date) → length (text_of d) ≡ 20
+unfolding text_of
+text_length d = refl
 
-pub dated-text : (z : ℤ) → outside z ≡ false → Dated z (dateText z)
-dated-text z h = (dateOf (momentAt z), is-date-of z h, refl)
+pub dated_text : (z : ℤ) → outside z ≡ false → Dated z (date_text z)
+dated_text z h = (date_of (moment_at z), is_date-of z h, refl)
 
-pub one-text : (z : ℤ) (t u : List ℕ) → Dated z t → Dated z u → t ≡ u
-one-text z t u h k = h.2 ∙ ap textOf (one-date z h.0 k.0 h.1 k.1) ∙ sym k.2
+pub one_text : (z : ℤ) (t u : List ℕ) → Dated z t → Dated z u → t ≡ u
+one_text z t u h k = h.2 ∙ ap text_of (one_date z h.0 k.0 h.1 k.1) ∙ sym k.2
 
 -- two functions that make the texts of some seconds make the same of each
-pub same-texts : (f g : ℤ → List ℕ) (secs : List ℤ) → AllDated f secs → AllDated g secs → (i : ℕ) → i < length secs → f (get_or secs i (pos 0)) ≡ g (get_or secs i (pos 0))
-same-texts f g secs h k i l = one-text (get_or secs i (pos 0)) (f (get_or secs i (pos 0))) (g (get_or secs i (pos 0))) (h i l) (k i l)
+pub same_texts : (f g : ℤ → List ℕ) (secs : List ℤ) → AllDated f secs → AllDated g secs → (i : ℕ) → i < length secs → f (get_or secs i (pos 0)) ≡ g (get_or secs i (pos 0))
+same_texts f g secs h k i l = one_text (get_or secs i (pos 0)) (f (get_or secs i (pos 0))) (g (get_or secs i (pos 0))) (h i l) (k i l)
 
 pub dated-length : (z : ℤ) (t : List ℕ) → Dated z t → length t ≡ 20
-dated-length z t h = ap length h.2 ∙ text-length h.0
+dated-length z t h = ap length h.2 ∙ text_length h.0
 
 -- ---- the order of texts
 -- one place of two lists, and the rest of them
@@ -69,32 +69,32 @@ four-before n m s t =
     ∙ as_one (n / 100) (m / 100) (n % 100) (m % 100) n m (before s t) (λ a. omega arith) (λ a. omega arith) (λ e a. omega arith) (λ e a. omega arith) (λ e q. omega arith)
 
 -- what follows the minutes, the hours, the days, the months and the year
-abbrev pub fromSecond : Date → List ℕ
-fromSecond d = 58 ∷ two d.second ++ (90 ∷ [])
+abbrev pub from_second : Date → List ℕ
+from_second d = 58 ∷ two d.second ++ (90 ∷ [])
 
-abbrev pub fromMinute : Date → List ℕ
-fromMinute d = 58 ∷ two d.minute ++ fromSecond d
+abbrev pub from_minute : Date → List ℕ
+from_minute d = 58 ∷ two d.minute ++ from_second d
 
-abbrev pub fromHour : Date → List ℕ
-fromHour d = 84 ∷ two d.hour ++ fromMinute d
+abbrev pub from_hour : Date → List ℕ
+from_hour d = 84 ∷ two d.hour ++ from_minute d
 
-abbrev pub fromDay : Date → List ℕ
-fromDay d = 45 ∷ two d.day ++ fromHour d
+abbrev pub from_day : Date → List ℕ
+from_day d = 45 ∷ two d.day ++ from_hour d
 
-abbrev pub fromMonth : Date → List ℕ
-fromMonth d = 45 ∷ two d.month ++ fromDay d
+abbrev pub from_month : Date → List ℕ
+from_month d = 45 ∷ two d.month ++ from_day d
 
-pub texts-order : (d e : Date) → before (textOf d) (textOf e) ≡ before (numbers d) (numbers e)
-unfolding textOf before
-texts-order d e =
-    four-before d.year e.year (fromMonth d) (fromMonth e)
-    ∙ ap (level d.year e.year) (two-before d.month e.month (fromDay d) (fromDay e)
-    ∙ ap (level d.month e.month) (two-before d.day e.day (fromHour d) (fromHour e)
-    ∙ ap (level d.day e.day) (two-before d.hour e.hour (fromMinute d) (fromMinute e)
-    ∙ ap (level d.hour e.hour) (two-before d.minute e.minute (fromSecond d) (fromSecond e)
+pub texts_order : (d e : Date) → before (text_of d) (text_of e) ≡ before (numbers d) (numbers e)
+unfolding text_of before
+texts_order d e =
+    four-before d.year e.year (from_month d) (from_month e)
+    ∙ ap (level d.year e.year) (two-before d.month e.month (from_day d) (from_day e)
+    ∙ ap (level d.month e.month) (two-before d.day e.day (from_hour d) (from_hour e)
+    ∙ ap (level d.day e.day) (two-before d.hour e.hour (from_minute d) (from_minute e)
+    ∙ ap (level d.hour e.hour) (two-before d.minute e.minute (from_second d) (from_second e)
     ∙ ap (level d.minute e.minute) (two-before d.second e.second (90 ∷ []) (90 ∷ []))))))
 
 pub dated-order : (z w : ℤ) (t u : List ℕ) → Dated z t → Dated w u → before t u ≡ lt_z z w
 dated-order z w t u h k =
-    let e : before t u ≡ before (textOf h.0) (textOf k.0) = rw (h.2, k.2) in
-    e ∙ texts-order h.0 k.0 ∙ calendar.order h.0 k.0 h.1.0 k.1.0 ∙ rw (h.1.1, k.1.1)
+    let e : before t u ≡ before (text_of h.0) (text_of k.0) = rw (h.2, k.2) in
+    e ∙ texts_order h.0 k.0 ∙ calendar.order h.0 k.0 h.1.0 k.1.0 ∙ rw (h.1.1, k.1.1)

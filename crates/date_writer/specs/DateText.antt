@@ -12,14 +12,14 @@ two n = digit (n / 10) ∷ digit (n % 10) ∷ []
 abbrev pub four : ℕ → List ℕ
 four n = two (n / 100) ++ two (n % 100)
 
-unfoldable pub textOf : Date → List ℕ
-textOf d =
+unfoldable pub text_of : Date → List ℕ
+text_of d =
     four d.year ++ ascii "-" ++ two d.month ++ ascii "-" ++ two d.day ++ ascii "T"
     ++ two d.hour ++ ascii ":" ++ two d.minute ++ ascii ":" ++ two d.second ++ ascii "Z"
 
 -- the text of second z: that of the date whose second it is
 abbrev pub Dated : ℤ → List ℕ → Type 0
-Dated z text = (d : Date) × IsDateOf z d × (text ≡ textOf d)
+Dated z text = (d : Date) × IsDateOf z d × (text ≡ text_of d)
 
 -- `texts` makes of each of these seconds its text
 abbrev pub AllDated : (ℤ → List ℕ) → List ℤ → Type 0

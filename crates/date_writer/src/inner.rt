@@ -2,8 +2,8 @@
 ghost use Rattle.std.specs.Prelude.{◌≡◌, false, ◌+◌, ◌≤◌, length};
 ghost use Rattle.limits.specs.Domain.{outside};
 ghost use Rattle.text.specs.Inner.{Put};
-ghost use Rattle.date_writer.specs.DateText.{textOf};
-ghost use Rattle.date_writer.specs.Inner.{Digits, dateText};
+ghost use Rattle.date_writer.specs.DateText.{text_of};
+ghost use Rattle.date_writer.specs.Inner.{Digits, date_text};
 
 use calendar::inner::date_of;
 use text::inner::put_bytes;
@@ -14,7 +14,7 @@ pub const DATE_BYTES: usize = 20;
 // Each digit by its place: a date has no number of other than two or four digits.
 fn text_of(year: u64, month: u64, day: u64, hour: u64, minute: u64, second: u64) -> [u8; DATE_BYTES]
     requires { Digits year month day hour minute second }
-    ensures { result ≡ textOf (record { year = year; month = month; day = day; hour = hour; minute = minute; second = second }) }
+    ensures { result ≡ text_of (record { year = year; month = month; day = day; hour = hour; minute = minute; second = second }) }
 {
     [
         b'0' + (year / 100 / 10) as u8,
@@ -43,7 +43,7 @@ fn text_of(year: u64, month: u64, day: u64, hour: u64, minute: u64, second: u64)
 // The text of a second of the domain.
 fn date_text(s: i64) -> [u8; DATE_BYTES]
     requires { outside s ≡ false }
-    ensures { result ≡ dateText s }
+    ensures { result ≡ date_text s }
 {
     let d = date_of(s);
     text_of(d.year, d.month, d.day, d.hour, d.minute, d.second)
@@ -53,7 +53,7 @@ fn date_text(s: i64) -> [u8; DATE_BYTES]
 pub fn put_date(out: &mut [u8], at: usize, s: i64) -> usize
     requires s_value { outside s ≡ false }
     requires at_in_bounds { at + 20 ≤ length out.old }
-    ensures { Put out.old at (dateText s) out.new result }
+    ensures { Put out.old at (date_text s) out.new result }
 {
     let text = date_text(s);
     put_bytes(out, at, &text)

@@ -9,10 +9,10 @@ use lib.ListN.{length, get_or}
 use Rattle.told.specs.Told.{Told, gave, refused}
 use Rattle.told.specs.Over.{over}
 use Rattle.tracker.proofs.Unique.{undone}
-use Rattle.date_writer.proofs.Texts.{one-text}
-use Rattle.dates.specs.Refusal.{told, toldWritten, toldRead}
-use Rattle.dates.specs.Read.{readDate}
-use Rattle.dates.specs.Write.{writeDate, LeavesDate, WritesDate}
+use Rattle.date_writer.proofs.Texts.{one_text}
+use Rattle.dates.specs.Refusal.{told, told_written, told_read}
+use Rattle.dates.specs.Read.{read_date}
+use Rattle.dates.specs.Write.{write_date, LeavesDate, WritesDate}
 use Rattle.dates.specs.declared.Refusal.{Refusal}
 use Rattle.dates.specs.declared.Refusal.TheVariants as rv
 use Rattle.dates.specs.declared.DateWritten.{DateWritten}
@@ -20,14 +20,14 @@ use Rattle.dates.specs.declared.DateWritten.TheVariants as wv
 use Rattle.dates.specs.declared.DateRead.{DateRead}
 use Rattle.dates.specs.declared.DateRead.TheVariants as dv
 
-abbrev refusalOf : List ℕ → Refusal
-refusalOf l =
+abbrev refusal_of : List ℕ → Refusal
+refusal_of l =
     let number = get_or l 0 0 in
     cond (eqb number 25) rv.NotTheGrammar
     (cond (eqb number 26) rv.NoSuchTime
     (cond (eqb number 27) rv.Outside (rv.Room (get_or l 1 0))))
 
-refusal-back : (r : Refusal) → refusalOf (told r) ≡ r
+refusal-back : (r : Refusal) → refusal_of (told r) ≡ r
 refusal-back rv.NotTheGrammar = refl
 refusal-back rv.NoSuchTime = refl
 refusal-back rv.Outside = refl
@@ -35,28 +35,28 @@ refusal-back (rv.Room bytes) = refl
 
 abbrev written_of : Told ℕ → DateWritten
 written_of (gave n) = wv.Written n
-written_of (refused l) = wv.Refused (refusalOf l)
+written_of (refused l) = wv.Refused (refusal_of l)
 
-written_back : (a : DateWritten) → written_of (toldWritten a) ≡ a
+written_back : (a : DateWritten) → written_of (told_written a) ≡ a
 written_back (wv.Written n) = refl
 written_back (wv.Refused r) = ap wv.Refused (refusal-back r)
 
 abbrev read_of : Told ℤ → DateRead
 read_of (gave z) = dv.At (record { 0 = z })
-read_of (refused l) = dv.Refused (refusalOf l)
+read_of (refused l) = dv.Refused (refusal_of l)
 
-read_back : (a : DateRead) → read_of (toldRead a) ≡ a
-read_back (dv.At s) = refl
-read_back (dv.Refused r) = ap dv.Refused (refusal-back r)
+read_back_lem : (a : DateRead) → read_of (told_read a) ≡ a
+read_back_lem (dv.At s) = refl
+read_back_lem (dv.Refused r) = ap dv.Refused (refusal-back r)
 
 -- `write_date`: its answer, and the output
 pub one_left : (t : Told ℕ) (z : ℤ) (out x y : List ℕ) → LeavesDate t z out x → LeavesDate t z out y → x ≡ y
-one_left (gave n) z out x y h k = h.2 ∙ ap (λ t. over t out) (one-text z h.0 k.0 h.1 k.1) ∙ sym k.2
+one_left (gave n) z out x y h k = h.2 ∙ ap (λ t. over t out) (one_text z h.0 k.0 h.1 k.1) ∙ sym k.2
 one_left (refused l) z out x y h k = h ∙ sym k
 
 pub one_written : (z : ℤ) (out : List ℕ) (a b : DateWritten) (x y : List ℕ) → WritesDate z out a x → WritesDate z out b y → (a ≡ b) × (x ≡ y)
-one_written z out a b x y h k = (undone toldWritten written_of written_back a b (h.0 ∙ sym k.0), one_left (writeDate z (length out)) z out x y h.1 k.1)
+one_written z out a b x y h k = (undone told_written written_of written_back a b (h.0 ∙ sym k.0), one_left (write_date z (length out)) z out x y h.1 k.1)
 
 -- `read_date`
-pub one-read : (s : List ℕ) (a b : DateRead) → toldRead a ≡ readDate s → toldRead b ≡ readDate s → a ≡ b
-one-read s a b h k = undone toldRead read_of read_back a b (h ∙ sym k)
+pub one-read : (s : List ℕ) (a b : DateRead) → told_read a ≡ read_date s → told_read b ≡ read_date s → a ≡ b
+one-read s a b h k = undone told_read read_of read_back_lem a b (h ∙ sym k)

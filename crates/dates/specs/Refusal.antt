@@ -15,11 +15,11 @@ told refusal.Outside = 27 ∷ []
 told (refusal.Room bytes) = 21 ∷ bytes ∷ []
 
 -- the bytes that were written
-abbrev pub toldWritten : DateWritten → Told ℕ
-toldWritten (written.Written n) = gave n
-toldWritten (written.Refused r) = refused (told r)
+abbrev pub told_written : DateWritten → Told ℕ
+told_written (written.Written n) = gave n
+told_written (written.Refused r) = refused (told r)
 
 -- the second
-abbrev pub toldRead : DateRead → Told ℤ
-toldRead (reading.At s) = gave s.0
-toldRead (reading.Refused r) = refused (told r)
+abbrev pub told_read : DateRead → Told ℤ
+told_read (reading.At s) = gave s.0
+told_read (reading.Refused r) = refused (told r)

@@ -1,7 +1,7 @@
 // The second that a date-time of the grammar says, or why it says none.
 ghost use Rattle.std.specs.Prelude.{◌≡◌, ◌≤◌};
-ghost use Rattle.dates.specs.Refusal.{toldRead};
-ghost use Rattle.dates.specs.Read.{isOffset, offset_of, ifInside, judged};
+ghost use Rattle.dates.specs.Refusal.{told_read};
+ghost use Rattle.dates.specs.Read.{is_offset, offset_of, if_inside, judged};
 
 use crate::{DateRead, Refusal};
 use calendar::Date;
@@ -11,7 +11,7 @@ use limits::inner::out_of_domain;
 use tracker::Second;
 
 fn is_offset(z: Zone) -> bool
-    ensures { result ≡ isOffset z }
+    ensures { result ≡ is_offset z }
 {
     z.hours <= 23 && z.minutes <= 59
 }
@@ -26,7 +26,7 @@ fn offset_of(z: Zone) -> i64
 }
 
 fn if_inside(s: i64) -> DateRead
-    ensures { toldRead result ≡ ifInside s }
+    ensures { told_read result ≡ if_inside s }
 {
     if out_of_domain(s) {
         return DateRead::Refused(Refusal::Outside);
@@ -36,7 +36,7 @@ fn if_inside(s: i64) -> DateRead
 
 // 26 before 27: whether the date is there is asked of the local one, as it stands in the text.
 pub fn judge(d: Date, z: Zone) -> DateRead
-    ensures { toldRead result ≡ judged (record { date = d; zone = z }) }
+    ensures { told_read result ≡ judged (record { date = d; zone = z }) }
 {
     if is_date(d) {
         if is_offset(z) {

@@ -3,8 +3,8 @@
 // No public call has a `requires`: what cannot be written or read is refused by a case of the answer, whose number specs/ lists
 // (docs/RULES.md, "Refusals").
 ghost use Rattle.std.specs.Prelude.{◌≡◌};
-ghost use Rattle.dates.specs.Refusal.{toldRead};
-ghost use Rattle.dates.specs.Read.{readDate};
+ghost use Rattle.dates.specs.Refusal.{told_read};
+ghost use Rattle.dates.specs.Read.{read_date};
 ghost use Rattle.dates.specs.Write.{WritesDate};
 
 mod judging; // judging.rt: the second that a date-time says
@@ -58,7 +58,7 @@ pub fn write_date(second: Second, out: &mut [u8]) -> DateWritten
 
 // Reads the whole of `bytes` as one date-time. A fraction of a second is left out.
 pub fn read_date(bytes: &[u8]) -> DateRead
-    ensures { toldRead result ≡ readDate bytes.now }
+    ensures { told_read result ≡ read_date bytes.now }
 {
     match stamp_of(bytes) {
         StampRead::At(date, zone) => judge(date, zone),

@@ -7,13 +7,13 @@ use lib.Dec.{leb}
 use lib.ListN.{length, take}
 use Rattle.told.specs.Told.{gave}
 use Rattle.told.specs.Told as told
-use Rattle.told.proofs.Unique.{given-not-refused, same-gift}
+use Rattle.told.proofs.Unique.{given_not_refused, same_gift}
 use Rattle.gorilla.specs.Parser.{Read, read, refused}
-use Rattle.gorilla.specs.Reading.{Pairs, readImage}
+use Rattle.gorilla.specs.Reading.{Pairs, read_image}
 use Rattle.gorilla.specs.Stops.{CutOff}
-use Rattle.gorilla.proofs.Cuts.{cut-refused}
-use Rattle.gorilla.proofs.Rooms.{any-room}
-use Rattle.decoder.specs.Decode.{listed, count_of, decodeRule, imageLenOf, imageLenRule}
+use Rattle.gorilla.proofs.Cuts.{cut_refused}
+use Rattle.gorilla.proofs.Rooms.{any_room}
+use Rattle.decoder.specs.Decode.{listed, count_of, decode_rule, image_len_of, image_len_rule}
 use Rattle.decoder.specs.Cut.{LenTellsWhere, DecodeTellsWhere}
 
 -- what one answer tells, another does that is made of it
@@ -25,24 +25,24 @@ cut_as bytes f c = record {
 }
 
 -- an image that is read with some room has the length that is told with any
-pub told-len : (room : ℕ → Bool) (bytes left : List ℕ) (p : Pairs) → readImage room bytes ≡ read p left → imageLenRule bytes ≡ gave (length bytes - length left / 8)
-unfolding imageLenRule
-told-len room bytes left p e = ap (imageLenOf bytes) (any-room room bytes left p e)
+pub told_len_lem : (room : ℕ → Bool) (bytes left : List ℕ) (p : Pairs) → read_image room bytes ≡ read p left → image_len_rule bytes ≡ gave (length bytes - length left / 8)
+unfolding image_len_rule
+told_len_lem room bytes left p e = ap (image_len_of bytes) (any_room room bytes left p e)
 
-pub len-tells-where : LenTellsWhere
-unfolding imageLenRule
-len-tells-where bytes n k h o = go (readImage (λ m. true) bytes) refl h
+pub len_tells_where : LenTellsWhere
+unfolding image_len_rule
+len_tells_where bytes n k h o = go (read_image (λ m. true) bytes) refl h
   where
-    go : (r : Read Pairs) → readImage (λ m. true) bytes ≡ r → imageLenOf bytes r ≡ gave n → CutOff (take k bytes) (λ l. imageLenRule (take k bytes) ≡ told.refused l)
-    go (read p left) e g = cut_as (take k bytes) (λ l f. ap (imageLenOf (take k bytes)) f) (cut-refused (λ m. true) bytes left p k e (subst (λ (u : ℕ). k < u) (sym (same-gift g)) o))
-    go (refused l) e g = given-not-refused (sym g)
+    go : (r : Read Pairs) → read_image (λ m. true) bytes ≡ r → image_len_of bytes r ≡ gave n → CutOff (take k bytes) (λ l. image_len_rule (take k bytes) ≡ told.refused l)
+    go (read p left) e g = cut_as (take k bytes) (λ l f. ap (image_len_of (take k bytes)) f) (cut_refused (λ m. true) bytes left p k e (subst (λ (u : ℕ). k < u) (sym (same_gift g)) o))
+    go (refused l) e g = given_not_refused (sym g)
 
-pub decode-tells-where : DecodeTellsWhere
+pub decode_tells_where : DecodeTellsWhere
 unfolding listed
-decode-tells-where bytes seqs secs count h = go (listed bytes seqs secs) refl h
+decode_tells_where bytes seqs secs count h = go (listed bytes seqs secs) refl h
   where
     go : (r : Read Pairs) → listed bytes seqs secs ≡ r → count_of r ≡ gave count
-        → (n : ℕ) × (imageLenRule bytes ≡ gave n) × ((k : ℕ) → k < n → CutOff (take k bytes) (λ l. decodeRule (take k bytes) seqs secs ≡ told.refused l))
+        → (n : ℕ) × (image_len_rule bytes ≡ gave n) × ((k : ℕ) → k < n → CutOff (take k bytes) (λ l. decode_rule (take k bytes) seqs secs ≡ told.refused l))
     go (read p left) e g =
-        (length bytes - length left / 8, told-len _ bytes left p e, λ k o. cut_as (take k bytes) (λ l f. ap count_of f) (cut-refused (λ m. leb m (min (length seqs) (length secs))) bytes left p k e o))
-    go (refused l) e g = given-not-refused (sym g)
+        (length bytes - length left / 8, told_len_lem _ bytes left p e, λ k o. cut_as (take k bytes) (λ l f. ap count_of f) (cut_refused (λ m. leb m (min (length seqs) (length secs))) bytes left p k e o))
+    go (refused l) e g = given_not_refused (sym g)

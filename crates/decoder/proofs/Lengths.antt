@@ -8,31 +8,31 @@ use borrow.Author.Tests.{le-leb}
 use lib.ListN.{length, take, drop, length-drop}
 use lib.Seq.{take_all}
 use Rattle.told.specs.Told.{gave}
-use Rattle.told.proofs.Unique.{given-not-refused, same-gift}
+use Rattle.told.proofs.Unique.{given_not_refused, same_gift}
 use Rattle.bit_lists.specs.BitList.{bits_of}
 use Rattle.gorilla.specs.Parser.{Read, read, refused}
-use Rattle.gorilla.specs.Reading.{Pairs, readImage}
-use Rattle.bit_lists.proofs.Lists.{length-bitsOf}
-use Rattle.decoder.specs.Decode.{imageLenOf, imageLenRule}
+use Rattle.gorilla.specs.Reading.{Pairs, read_image}
+use Rattle.bit_lists.proofs.Lists.{length-bits_of}
+use Rattle.decoder.specs.Decode.{image_len_of, image_len_rule}
 use Rattle.array_reader.specs.Inner.{Agrees}
 
 -- every count of 32 bits is at most 2^32 - 1
-pub no-limit : Agrees 4294967295 (λ n. true)
-no-limit n h = sym (le-leb n 4294967295 (omega (arith, h)))
+pub no_limit : Agrees 4294967295 (λ n. true)
+no_limit n h = sym (le-leb n 4294967295 (omega (arith, h)))
 
 -- the bytes less those after byte e
-pub less-left : (s : List ℕ) (e : ℕ) → e ≤ length s → e ≡ length s - length (drop (e * 8) (bits_of s)) / 8
-less-left s e h = omega (arith, length-drop (e * 8) (bits_of s), length-bitsOf s)
+pub less_left : (s : List ℕ) (e : ℕ) → e ≤ length s → e ≡ length s - length (drop (e * 8) (bits_of s)) / 8
+less_left s e h = omega (arith, length-drop (e * 8) (bits_of s), length-bits_of s)
 
 -- an image is no longer than its bytes
-pub len-within : (s : List ℕ) {n : ℕ} → gave n ≡ imageLenRule s → n ≤ length s
-unfolding imageLenRule
-len-within s {n} h = go (readImage (λ m. true) s) h
+pub len_within : (s : List ℕ) {n : ℕ} → gave n ≡ image_len_rule s → n ≤ length s
+unfolding image_len_rule
+len_within s {n} h = go (read_image (λ m. true) s) h
   where
-    go : (r : Read Pairs) → gave n ≡ imageLenOf s r → n ≤ length s
-    go (read p left) g = let e : n ≡ length s - length left / 8 = same-gift g in omega arith
-    go (refused l) g = given-not-refused g
+    go : (r : Read Pairs) → gave n ≡ image_len_of s r → n ≤ length s
+    go (read p left) g = let e : n ≡ length s - length left / 8 = same_gift g in omega arith
+    go (refused l) g = given_not_refused g
 
 -- a part from n on is all that is left from there
-pub tail-is : (s : List ℕ) (n : ℕ) → take (length s - n) (drop n s) ≡ drop n s
-tail-is s n = take_all (length s - n) (drop n s) (omega (arith, length-drop n s))
+pub tail_is : (s : List ℕ) (n : ℕ) → take (length s - n) (drop n s) ≡ drop n s
+tail_is s n = take_all (length s - n) (drop n s) (omega (arith, length-drop n s))

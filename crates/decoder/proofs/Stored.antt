@@ -4,11 +4,11 @@ use mathlib.Core.List.{List}
 use lib.IntN.{ℤ}
 use Rattle.told.specs.Over.{filled}
 use Rattle.gorilla.specs.Parser.{Read}
-use Rattle.gorilla.specs.Reading.{Pairs, pairsRead}
+use Rattle.gorilla.specs.Reading.{Pairs, pairs_read}
 use Rattle.decoder.specs.Decode.{count_of}
 
-abbrev pub seqsOver : List ℕ → Read Pairs → List ℕ
-seqsOver old r = filled (count_of r) (pairsRead r).seqs old
+abbrev pub seqs_over : List ℕ → Read Pairs → List ℕ
+seqs_over old r = filled (count_of r) (pairs_read r).seqs old
 
-abbrev pub secsOver : List ℤ → Read Pairs → List ℤ
-secsOver old r = filled (count_of r) (pairsRead r).secs old
+abbrev pub secs_over : List ℤ → Read Pairs → List ℤ
+secs_over old r = filled (count_of r) (pairs_read r).secs old

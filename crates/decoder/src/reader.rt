@@ -1,6 +1,6 @@
 // The public calls. Each looks an image over before it stores or answers anything.
 ghost use Rattle.std.specs.Prelude.{◌≡◌};
-ghost use Rattle.decoder.specs.Decode.{Decodes, toldImageLen, imageLenRule, restRule, restFrom, onwards};
+ghost use Rattle.decoder.specs.Decode.{Decodes, told_image_len, image_len_rule, rest_rule, rest_from, onwards};
 
 use crate::{Decoded, ImageLen};
 use array_filler::inner::{fill_secs, fill_seqs};
@@ -28,7 +28,7 @@ pub fn decode(bytes: &[u8], seqs: &mut [u64], secs: &mut [i64]) -> Decoded
 
 // An image's length. No array is lent, so no count is too great.
 pub fn image_len(bytes: &[u8]) -> ImageLen
-    ensures { toldImageLen result ≡ imageLenRule bytes.now }
+    ensures { told_image_len result ≡ image_len_rule bytes.now }
 {
     match scan_image(bytes, MOST) {
         ImageScan::Found(p) => ImageLen::Bytes(p.end),
@@ -38,8 +38,8 @@ pub fn image_len(bytes: &[u8]) -> ImageLen
 
 // The part of the caller's bytes that follows the image; refused, an empty part at their end.
 pub fn rest<'a>(bytes: &'a [u8]) -> &'a [u8]
-    ensures rest { result.now ≡ restRule bytes.now }
-    ensures part { result.ref_ptr ≡ onwards bytes.entry.ref_ptr (restFrom bytes.now) }
+    ensures rest { result.now ≡ rest_rule bytes.now }
+    ensures part { result.ref_ptr ≡ onwards bytes.entry.ref_ptr (rest_from bytes.now) }
 {
     match image_len(bytes) {
         ImageLen::Bytes(n) => &bytes[n..],

@@ -8,29 +8,29 @@ use lib.Dec.{eqb, ltb}
 use lib.ListN.{length}
 use lib.IntN.{ℤ}
 use Rattle.told.specs.Told.{Told, gave, refused}
-use Rattle.told.proofs.Unique.{given-not-refused, same-gift}
-use Rattle.encoder.specs.Encode.{arraysRule}
+use Rattle.told.proofs.Unique.{given_not_refused, same_gift}
+use Rattle.encoder.specs.Encode.{arrays_rule}
 
 module _ (seqs : List ℕ) (secs : List ℤ) where
-  pub differ : (next : Told ℕ) → (length seqs ≡ length secs → ⊥) → refused (18 ∷ []) ≡ arraysRule seqs secs next
-  unfolding arraysRule
+  pub differ : (next : Told ℕ) → (length seqs ≡ length secs → ⊥) → refused (18 ∷ []) ≡ arrays_rule seqs secs next
+  unfolding arrays_rule
   differ next h = simp (ne_eqb _ _ h)
 
-  pub many : (next : Told ℕ) → length seqs ≡ length secs → 65536 < length seqs → refused (19 ∷ []) ≡ arraysRule seqs secs next
-  unfolding arraysRule
+  pub many : (next : Told ℕ) → length seqs ≡ length secs → 65536 < length seqs → refused (19 ∷ []) ≡ arrays_rule seqs secs next
+  unfolding arrays_rule
   many next e h = simp (eq-eqb _ _ e, lt-ltb _ _ h)
 
-  pub passed : (next : Told ℕ) → length seqs ≡ length secs → length seqs ≤ 65536 → arraysRule seqs secs next ≡ next
-  unfolding arraysRule
+  pub passed : (next : Told ℕ) → length seqs ≡ length secs → length seqs ≤ 65536 → arrays_rule seqs secs next ≡ next
+  unfolding arrays_rule
   passed next e h = simp (eq-eqb _ _ e, le-ltb _ _ h)
 
   -- the cases of what the rule tells
-  by-case : {X : Type 0} (next x : Told ℕ) → x ≡ arraysRule seqs secs next
+  by_case : {X : Type 0} (next x : Told ℕ) → x ≡ arrays_rule seqs secs next
       → ((length seqs ≡ length secs → ⊥) → x ≡ refused (18 ∷ []) → X)
       → (length seqs ≡ length secs → 65536 < length seqs → x ≡ refused (19 ∷ []) → X)
       → (length seqs ≡ length secs → length seqs ≤ 65536 → x ≡ next → X) → X
-  unfolding arraysRule
-  by-case {X} next x h a b c = go (eqb (length seqs) (length secs)) refl (ltb 65536 (length seqs)) refl h
+  unfolding arrays_rule
+  by_case {X} next x h a b c = go (eqb (length seqs) (length secs)) refl (ltb 65536 (length seqs)) refl h
     where
       go : (t : Bool) → eqb (length seqs) (length secs) ≡ t → (u : Bool) → ltb 65536 (length seqs) ≡ u
           → x ≡ cond (not t) (refused (18 ∷ [])) (cond u (refused (19 ∷ [])) next) → X
@@ -42,17 +42,17 @@ module _ (seqs : List ℕ) (secs : List ℤ) where
   pub record Passed (bytes n : ℕ) : Type 0 where
     pub same : length seqs ≡ length secs
     pub few : length seqs ≤ 65536
-    pub bytes-are : n ≡ bytes
+    pub bytes_are : n ≡ bytes
 
-  pub len-given : (bytes n : ℕ) → gave n ≡ arraysRule seqs secs (gave bytes) → Passed bytes n
-  len-given bytes n h = by-case (gave bytes) (gave n) h
-      (λ _ g. given-not-refused g)
-      (λ _ _ g. given-not-refused g)
-      (λ e f g. record { same = e; few = f; bytes-are = same-gift g })
+  pub len_given : (bytes n : ℕ) → gave n ≡ arrays_rule seqs secs (gave bytes) → Passed bytes n
+  len_given bytes n h = by_case (gave bytes) (gave n) h
+      (λ _ g. given_not_refused g)
+      (λ _ _ g. given_not_refused g)
+      (λ e f g. record { same = e; few = f; bytes_are = same_gift g })
 
   -- one that is refused: so is whatever follows
-  pub len-refused : (bytes : ℕ) (l : List ℕ) (next : Told ℕ) → refused l ≡ arraysRule seqs secs (gave bytes) → refused l ≡ arraysRule seqs secs next
-  len-refused bytes l next h = by-case (gave bytes) (refused l) h
+  pub len_refused : (bytes : ℕ) (l : List ℕ) (next : Told ℕ) → refused l ≡ arrays_rule seqs secs (gave bytes) → refused l ≡ arrays_rule seqs secs next
+  len_refused bytes l next h = by_case (gave bytes) (refused l) h
       (λ e g. g ∙ differ next e)
       (λ e f g. g ∙ many next e f)
-      (λ _ _ g. given-not-refused (sym g))
+      (λ _ _ g. given_not_refused (sym g))

@@ -1,8 +1,8 @@
 -- What our own functions promise each other. No public statement cites this file.
 use Rattle.std.specs.Prelude.{ℕ, ◌+◌, ◌*◌, ◌≤◌, ◌≡◌, List, length, ℤ}
-use Rattle.gorilla.specs.Format.{imageBytes}
+use Rattle.gorilla.specs.Format.{image_bytes}
 use Rattle.encoder.specs.Encode.{Encodes}
-use Rattle.told.specs.Room.{roomRule}
+use Rattle.told.specs.Room.{room_rule}
 use Rattle.encoder.specs.declared.Encoded.{Encoded}
 
 -- arrays that pass 18 and 19, and a length that no image of so many pairs exceeds
@@ -11,4 +11,4 @@ Measured seqs secs most = (length seqs ≡ length secs) × (length seqs ≤ 6553
 
 -- the image, or 21
 abbrev pub EncodesInRoom : List ℕ → List ℤ → List ℕ → Encoded → List ℕ → Type 0
-EncodesInRoom = Encodes (λ seqs secs room. roomRule (length (imageBytes seqs secs)) room)
+EncodesInRoom = Encodes (λ seqs secs room. room_rule (length (image_bytes seqs secs)) room)

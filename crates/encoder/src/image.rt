@@ -1,5 +1,5 @@
 // The image, or why there is none.
-ghost use Rattle.encoder.specs.Encode.{encodeRule, strictRule, Encodes};
+ghost use Rattle.encoder.specs.Encode.{encode_rule, strict_rule, Encodes};
 ghost use Rattle.encoder.specs.Inner.{Measured, EncodesInRoom};
 
 use crate::len::most_bytes;
@@ -26,7 +26,7 @@ fn write_if_room(seqs: &[u64], secs: &[i64], out: &mut [u8], most: usize) -> Enc
 
 // The Rust's bytes: differences wrap, and one that 32 bits do not hold is cut to them.
 pub fn encode(seqs: &[u64], secs: &[i64], out: &mut [u8]) -> Encoded
-    ensures { Encodes encodeRule seqs.now secs.now out.old result out.new }
+    ensures { Encodes encode_rule seqs.now secs.now out.old result out.new }
 {
     match most_bytes(seqs, secs) {
         EncodedLen::Bytes(most) => write_if_room(seqs, secs, out, most),
@@ -36,7 +36,7 @@ pub fn encode(seqs: &[u64], secs: &[i64], out: &mut [u8]) -> Encoded
 
 // The same where 32 bits hold every difference of deltas, so that the image reads back as the arrays.
 pub fn encode_strict(seqs: &[u64], secs: &[i64], out: &mut [u8]) -> Encoded
-    ensures { Encodes strictRule seqs.now secs.now out.old result out.new }
+    ensures { Encodes strict_rule seqs.now secs.now out.old result out.new }
 {
     match most_bytes(seqs, secs) {
         EncodedLen::Bytes(most) => match first_wide(seqs, secs) {

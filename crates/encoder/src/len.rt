@@ -1,7 +1,7 @@
 // The length of an image, or why it has none; and a bound of it that needs no count.
 ghost use Rattle.std.specs.Prelude.{◌≡◌, ◌+◌, ◌*◌, length};
 ghost use Rattle.told.specs.Told.{gave};
-ghost use Rattle.encoder.specs.Encode.{toldLen, arraysRule, lenRule};
+ghost use Rattle.encoder.specs.Encode.{told_len, arrays_rule, len_rule};
 
 use crate::{EncodedLen, Refusal};
 use lengths::inner::image_bytes;
@@ -11,7 +11,7 @@ const MOST: usize = 65536;
 
 // A length that no image of so many pairs exceeds, at 36 bits a code; or 18, 19.
 pub fn most_bytes(seqs: &[u64], secs: &[i64]) -> EncodedLen
-    ensures { toldLen result ≡ arraysRule seqs.now secs.now (gave (length seqs.now * 9 + 21)) }
+    ensures { told_len result ≡ arrays_rule seqs.now secs.now (gave (length seqs.now * 9 + 21)) }
 {
     if seqs.len() != secs.len() {
         return EncodedLen::Refused(Refusal::LengthsDiffer);
@@ -24,7 +24,7 @@ pub fn most_bytes(seqs: &[u64], secs: &[i64]) -> EncodedLen
 }
 
 pub fn encoded_len(seqs: &[u64], secs: &[i64]) -> EncodedLen
-    ensures { toldLen result ≡ lenRule seqs.now secs.now }
+    ensures { told_len result ≡ len_rule seqs.now secs.now }
 {
     match most_bytes(seqs, secs) {
         EncodedLen::Bytes(_) => EncodedLen::Bytes(image_bytes(seqs, secs)),

@@ -13,16 +13,16 @@ use Rattle.order.specs.First.{first}
 use Rattle.order.specs.Order.{drops}
 use Rattle.order.specs.Inner.{NoneBelow}
 use Rattle.order.proofs.Bools.{below_or}
-use Rattle.order.proofs.First.{first-is, first-none, first-within, first_holds, first-least, first_under, first_out}
-use Rattle.order.proofs.Last.{final-is, final-none}
+use Rattle.order.proofs.First.{first_is, first-none, first-within, first_holds, first_least, first_under, first_out}
+use Rattle.order.proofs.Last.{final_is, final-none}
 use Rattle.order.proofs.Order.{Order, rises}
-use Rattle.search.specs.Keys.{smaller, greater, firstNotBelow}
+use Rattle.search.specs.Keys.{smaller, greater, first_not_below}
 use Rattle.lookup.specs.Find.{place}
 use Rattle.lookup.specs.Laws.{equal}
 use Rattle.lookup.specs.declared.FindOption.{FindOption}
 use Rattle.lookup.specs.declared.FindOption.TheVariants.{RoundUp, RoundDown}
-use Rattle.lookup.proofs.Place.{un_not, is-smaller}
-use Rattle.explaining.specs.Reason.{before, below, beside, someEqual, reasonOf}
+use Rattle.lookup.proofs.Place.{un_not, is_smaller}
+use Rattle.explaining.specs.Reason.{before, below, beside, some_equal, reason_of}
 use Rattle.explaining.specs.Laws.{Between, BelowFirst, AboveLast, Parts}
 use Rattle.explaining.specs.Inner.{answering}
 use Rattle.explaining.specs.declared.Reason.TheVariants.{Exact, RoundedUp, RoundedDown, BeforeFirst, AfterLast}
@@ -32,9 +32,9 @@ some-keys n l = ne_eqb n 0 (λ e. omega arith)
 
 module _ {K : Type 0} (lt : K → K → Bool) (O : Order lt) (d : K) (keys : List K) (n : ℕ) (x : K) where
   -- one key equals
-  pub equal-reason : (j : ℕ) → j < n → equal lt d keys x j ≡ true → (opt : FindOption) → reasonOf lt d opt keys n x ≡ Exact (place lt d opt keys n x)
+  pub equal-reason : (j : ℕ) → j < n → equal lt d keys x j ≡ true → (opt : FindOption) → reason_of lt d opt keys n x ≡ Exact (place lt d opt keys n x)
   equal-reason j l e opt =
-      let f : first (equal lt d keys x) n < n = omega (arith, first-least (equal lt d keys x) n j l e) in
+      let f : first (equal lt d keys x) n < n = omega (arith, first_least (equal lt d keys x) n j l e) in
       rw (some-keys n (omega arith), lt-ltb (first (equal lt d keys x) n) n f)
 
   module _ (p : ℕ) (P : Parts lt d keys n x p) where
@@ -44,21 +44,21 @@ module _ {K : Type 0} (lt : K → K → Bool) (O : Order lt) (d : K) (keys : Lis
         (λ (h : p ≤ j). rw (P.over j h l, and-false (not (smaller lt d keys x j))))
         (below_or j p)
 
-    pub no-equal : someEqual lt d keys n x ≡ false
-    no-equal = rw (first-none (equal lt d keys x) n n (le_refl n) none-equals, le-ltb n n (le_refl n))
+    pub no_equal : some_equal lt d keys n x ≡ false
+    no_equal = rw (first-none (equal lt d keys x) n n (le_refl n) none-equals, le-ltb n n (le_refl n))
 
     pub first-greater : first (greater lt d keys x) n ≡ p
-    first-greater = first-is (greater lt d keys x) n p P.within (λ j h. O.asym (get_or keys j d) x (P.under j h)) (λ l. P.over p (le_refl p) l)
+    first-greater = first_is (greater lt d keys x) n p P.within (λ j h. O.asym (get_or keys j d) x (P.under j h)) (λ l. P.over p (le_refl p) l)
 
-    pub parts-reason : 0 < n → (opt : FindOption) → reasonOf lt d opt keys n x ≡ beside opt p n
-    parts-reason some opt = rw (some-keys n some, no-equal, first-greater)
+    pub parts-reason : 0 < n → (opt : FindOption) → reason_of lt d opt keys n x ≡ beside opt p n
+    parts-reason some opt = rw (some-keys n some, no_equal, first-greater)
 
     -- the position that answers is the lookup's
     pub parts-place : (opt : FindOption) → answering (beside opt p n) n ≡ place lt d opt keys n x
     parts-place RoundUp = go (eqb p n) refl ∙ sym here
       where
         here : place lt d RoundUp keys n x ≡ p
-        here = first-is (λ i. not (smaller lt d keys x i)) n p P.within (λ j h. rw (P.under j h)) (λ l. rw (O.asym x (get_or keys p d) (P.over p (le_refl p) l)))
+        here = first_is (λ i. not (smaller lt d keys x i)) n p P.within (λ j h. rw (P.under j h)) (λ l. rw (O.asym x (get_or keys p d) (P.over p (le_refl p) l)))
 
         go : (b : Bool) → eqb p n ≡ b → answering (cond b AfterLast (RoundedUp (before p) p)) n ≡ p
         go true e = sym (eqb-true p n e)
@@ -70,17 +70,17 @@ module _ {K : Type 0} (lt : K → K → Bool) (O : Order lt) (d : K) (keys : Lis
         go false e =
             let some : 0 < p = pos_of_ne-zero (eqb-false p 0 e) in
             let within : p - 1 < n = omega (arith, P.within) in
-            sym (final-is (λ i. not (greater lt d keys x i)) n (p - 1) within
+            sym (final_is (λ i. not (greater lt d keys x i)) n (p - 1) within
             (rw (O.asym (get_or keys (p - 1) d) x (P.under (p - 1) (omega arith))))
             (λ j a l. rw (P.over j (omega arith) l)))
 
   module _ (sorted : NoneBelow (drops lt d keys) n) where
     -- up to a smaller key all are smaller, and from a greater one on all are greater
     under-by : (b : ℕ) → b < n → smaller lt d keys x b ≡ true → (j : ℕ) → j ≤ b → smaller lt d keys x j ≡ true
-    under-by b l s j h = O.le-lt (get_or keys j d) (get_or keys b d) x (rises lt O d keys n sorted j b h l) s
+    under-by b l s j h = O.le_lt (get_or keys j d) (get_or keys b d) x (rises lt O d keys n sorted j b h l) s
 
     over_by : (a : ℕ) → greater lt d keys x a ≡ true → (j : ℕ) → a ≤ j → j < n → greater lt d keys x j ≡ true
-    over_by a g j h l = O.lt-le x (get_or keys a d) (get_or keys j d) g (rises lt O d keys n sorted a j h l)
+    over_by a g j h l = O.lt_le x (get_or keys a d) (get_or keys j d) g (rises lt O d keys n sorted a j h l)
 
     pub parts-between : (b a : ℕ) → Between lt d keys n x b a → Parts lt d keys n x a
     parts-between b a B =
@@ -99,7 +99,7 @@ module _ {K : Type 0} (lt : K → K → Bool) (O : Order lt) (d : K) (keys : Lis
         record { within = le_refl n; under = λ j h. under-by p (omega arith) B.key_below j (omega arith); over = λ j h l. absurd (omega arith) }
 
     -- where no key equals, they part at the first greater one
-    pub parted : someEqual lt d keys n x ≡ false → Parts lt d keys n x (first (greater lt d keys x) n)
+    pub parted : some_equal lt d keys n x ≡ false → Parts lt d keys n x (first (greater lt d keys x) n)
     parted none =
         let out = first_out (equal lt d keys x) n (ltb-false (first (equal lt d keys x) n) n none) in
         let w = first-within (greater lt d keys x) n in
@@ -107,20 +107,20 @@ module _ {K : Type 0} (lt : K → K → Bool) (O : Order lt) (d : K) (keys : Lis
           within = w;
           under = λ j h.
               let l : j < n = omega arith in
-              is-smaller (smaller lt d keys x j) (greater lt d keys x j) (out j l) (first_under (greater lt d keys x) n j l h);
+              is_smaller (smaller lt d keys x j) (greater lt d keys x j) (out j l) (first_under (greater lt d keys x) n j l h);
           over = λ j h l. over_by (first (greater lt d keys x) n) (first_holds (greater lt d keys x) n (omega arith)) j h l;
         }
 
     -- where the first key that is not below x stands
-    module _ (p : ℕ) (at : p ≡ firstNotBelow lt d keys n x) where
-      before-it : (j : ℕ) → j < n → j < p → smaller lt d keys x j ≡ true
-      before-it j l h = un_not (smaller lt d keys x j) false (first_under (λ i. not (smaller lt d keys x i)) n j l (omega arith))
+    module _ (p : ℕ) (at : p ≡ first_not_below lt d keys n x) where
+      before_it : (j : ℕ) → j < n → j < p → smaller lt d keys x j ≡ true
+      before_it j l h = un_not (smaller lt d keys x j) false (first_under (λ i. not (smaller lt d keys x i)) n j l (omega arith))
 
       pub parts-past : p ≡ n → Parts lt d keys n x p
-      parts-past e = record { within = omega arith; under = λ j h. before-it j (omega arith) h; over = λ j h l. absurd (omega arith) }
+      parts-past e = record { within = omega arith; under = λ j h. before_it j (omega arith) h; over = λ j h l. absurd (omega arith) }
 
       pub parts-there : p < n → greater lt d keys x p ≡ true → Parts lt d keys n x p
-      parts-there l g = record { within = omega arith; under = λ j h. before-it j (omega arith) h; over = λ j h m. over_by p g j h m }
+      parts-there l g = record { within = omega arith; under = λ j h. before_it j (omega arith) h; over = λ j h m. over_by p g j h m }
 
       pub equal-there : p < n → greater lt d keys x p ≡ false → equal lt d keys x p ≡ true
       equal-there l g =

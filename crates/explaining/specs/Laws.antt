@@ -3,15 +3,15 @@ use Rattle.std.specs.Prelude.{ℕ, suc, ◌-◌, ◌≤◌, ◌<◌, ◌≡◌, 
 use Rattle.std.specs.Int.Signed.{lt_z}
 use Rattle.told.specs.Told.{Told, gave, refused}
 use Rattle.search.specs.Keys.{smaller, greater}
-use Rattle.tracker.specs.Table.{checkOf}
+use Rattle.tracker.specs.Table.{check_of}
 use Rattle.tracker.specs.declared.Seq.{Seq}
 use Rattle.tracker.specs.declared.Second.{Second}
 use Rattle.tracker.specs.declared.SequenceTracker.{SequenceTracker}
-use Rattle.lookup.specs.Find.{Partner, partner, nothing, secondAt, seqAt, findTs, findSeq}
+use Rattle.lookup.specs.Find.{Partner, partner, nothing, second_at, seq_at, find_ts, find_seq}
 use Rattle.lookup.specs.Laws.{equal, SameKept}
 use Rattle.lookup.specs.declared.FindOption.{FindOption}
 use Rattle.lookup.specs.declared.FindOption.TheVariants.{RoundUp, RoundDown}
-use Rattle.explaining.specs.Why.{Why, whyTs, whySeq}
+use Rattle.explaining.specs.Why.{Why, why_ts, why_seq}
 use Rattle.explaining.specs.declared.Neighbour.TheVariants.{At, Missing}
 use Rattle.explaining.specs.declared.Reason.{Reason}
 use Rattle.explaining.specs.declared.Reason.TheVariants.{Exact, RoundedUp, RoundedDown, BeforeFirst, AfterLast, Empty}
@@ -74,42 +74,42 @@ module _ {K : Type 0} (lt : K → K → Bool) (d : K) (keys : List K) (n : ℕ) 
   AllKeys Empty = n ≡ 0
 
 -- the answer under a reason: the partner at the position that answers, or nothing where the reason has none
-abbrev pub answerBy : {A : Type 0} → (ℕ → A) → Reason → Partner A
-answerBy at (Exact p) = partner (at p)
-answerBy at (RoundedUp below above) = partner (at above)
-answerBy at (RoundedDown below above) = partner (at below)
-answerBy at BeforeFirst = nothing
-answerBy at AfterLast = nothing
-answerBy at Empty = nothing
+abbrev pub answer_by : {A : Type 0} → (ℕ → A) → Reason → Partner A
+answer_by at (Exact p) = partner (at p)
+answer_by at (RoundedUp below above) = partner (at above)
+answer_by at (RoundedDown below above) = partner (at below)
+answer_by at BeforeFirst = nothing
+answer_by at AfterLast = nothing
+answer_by at Empty = nothing
 
 -- what holds of `why` of x among n keys, in a table that is checked first; `find` is the lookup, which answers with what stands `at` a position
 pub record Explains {K A : Type 0} (lt : K → K → Bool) (d : K) (keys : List K) (n : ℕ) (x : K) (at : ℕ → A) (check : Told (Unit {0})) (find : FindOption → Told (Partner A)) (why : FindOption → Told (Why A)) : Type 0 where
   -- a reason is given, with an answer under it, exactly when the table is good, the facts that the reason names hold of it, and the lookup gives that answer
-  pub given-exactly : (opt : FindOption) (r : Reason) (a : Partner A) → (why opt ≡ gave (record { reason = r; answer = a })) ↔ ((check ≡ gave tt) × Holds lt d keys n x opt r × (find opt ≡ gave a))
+  pub given_exactly : (opt : FindOption) (r : Reason) (a : Partner A) → (why opt ≡ gave (record { reason = r; answer = a })) ↔ ((check ≡ gave tt) × Holds lt d keys n x opt r × (find opt ≡ gave a))
   -- it is refused exactly when the table is, in the same words
-  pub refused-exactly : (opt : FindOption) (what : List ℕ) → (why opt ≡ refused what) ↔ (check ≡ refused what)
+  pub refused_exactly : (opt : FindOption) (what : List ℕ) → (why opt ≡ refused what) ↔ (check ≡ refused what)
   -- in a good table each question has a reason whose facts hold, and no other: the reasons exclude each other
-  pub some-reason : (opt : FindOption) → check ≡ gave tt → (r : Reason) × Holds lt d keys n x opt r
-  pub one-reason : (opt : FindOption) (r r' : Reason) → check ≡ gave tt → Holds lt d keys n x opt r → Holds lt d keys n x opt r' → r ≡ r'
+  pub some_reason : (opt : FindOption) → check ≡ gave tt → (r : Reason) × Holds lt d keys n x opt r
+  pub one_reason : (opt : FindOption) (r r' : Reason) → check ≡ gave tt → Holds lt d keys n x opt r → Holds lt d keys n x opt r' → r ≡ r'
   -- the lookup's answer is the partner at the position that the reason has for it
-  pub answered-there : (opt : FindOption) (r : Reason) → check ≡ gave tt → Holds lt d keys n x opt r → find opt ≡ gave (answerBy at r)
+  pub answered_there : (opt : FindOption) (r : Reason) → check ≡ gave tt → Holds lt d keys n x opt r → find opt ≡ gave (answer_by at r)
   -- no kept key stands between the neighbours, or beyond the first or the last, on the side of x
-  pub all-keys : (opt : FindOption) (r : Reason) → check ≡ gave tt → Holds lt d keys n x opt r → AllKeys lt d keys n x r
+  pub all_keys : (opt : FindOption) (r : Reason) → check ≡ gave tt → Holds lt d keys n x opt r → AllKeys lt d keys n x r
 
 -- of both calls
 abbrev pub ExplainsTs : Type 0
 ExplainsTs = (table : SequenceTracker) (seqs : List ℕ) (secs : List ℤ) (seq : Seq)
-    → Explains ltb 0 seqs table.count seq.0 (secondAt secs) (checkOf table seqs secs) (findTs table seqs secs seq) (whyTs table seqs secs seq)
+    → Explains ltb 0 seqs table.count seq.0 (second_at secs) (check_of table seqs secs) (find_ts table seqs secs seq) (why_ts table seqs secs seq)
 
 abbrev pub ExplainsSeq : Type 0
 ExplainsSeq = (table : SequenceTracker) (seqs : List ℕ) (secs : List ℤ) (ts : Second)
-    → Explains lt_z (pos 0) secs table.count ts.0 (seqAt seqs) (checkOf table seqs secs) (findSeq table seqs secs ts) (whySeq table seqs secs ts)
+    → Explains lt_z (pos 0) secs table.count ts.0 (seq_at seqs) (check_of table seqs secs) (find_seq table seqs secs ts) (why_seq table seqs secs ts)
 
 -- a reason does not depend on what stands past the count
 abbrev pub KeptWhyTs : Type 0
 KeptWhyTs = (table : SequenceTracker) (seqs seqs' : List ℕ) (secs secs' : List ℤ) (seq : Seq) (opt : FindOption)
-    → SameKept table seqs seqs' secs secs' → whyTs table seqs secs seq opt ≡ whyTs table seqs' secs' seq opt
+    → SameKept table seqs seqs' secs secs' → why_ts table seqs secs seq opt ≡ why_ts table seqs' secs' seq opt
 
 abbrev pub KeptWhySeq : Type 0
 KeptWhySeq = (table : SequenceTracker) (seqs seqs' : List ℕ) (secs secs' : List ℤ) (ts : Second) (opt : FindOption)
-    → SameKept table seqs seqs' secs secs' → whySeq table seqs secs ts opt ≡ whySeq table seqs' secs' ts opt
+    → SameKept table seqs seqs' secs secs' → why_seq table seqs secs ts opt ≡ why_seq table seqs' secs' ts opt

@@ -28,12 +28,12 @@ beside RoundDown p n = cond (eqb p 0) BeforeFirst (RoundedDown (p - 1) (below p 
 -- over the first n keys of any type with an order test `lt`; d is what a key past the end would be
 module _ {K : Type 0} (lt : K → K → Bool) (d : K) where
   -- one of the first n keys equals x
-  abbrev pub someEqual : List K → ℕ → K → Bool
-  someEqual keys n x = ltb (first (equal lt d keys x) n) n
+  abbrev pub some_equal : List K → ℕ → K → Bool
+  some_equal keys n x = ltb (first (equal lt d keys x) n) n
 
   -- no key is there; or one equals, and the position that answers is told; or x lies beside or between keys
-  abbrev pub reasonOf : FindOption → List K → ℕ → K → Reason
-  reasonOf opt keys n x =
+  abbrev pub reason_of : FindOption → List K → ℕ → K → Reason
+  reason_of opt keys n x =
       cond (eqb n 0) Empty
-      (cond (someEqual keys n x) (Exact (place lt d opt keys n x))
+      (cond (some_equal keys n x) (Exact (place lt d opt keys n x))
       (beside opt (first (greater lt d keys x) n) n))

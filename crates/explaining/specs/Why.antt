@@ -6,9 +6,9 @@ use Rattle.tracker.specs.Refusal.{told}
 use Rattle.tracker.specs.declared.Seq.{Seq}
 use Rattle.tracker.specs.declared.Second.{Second}
 use Rattle.tracker.specs.declared.SequenceTracker.{SequenceTracker}
-use Rattle.lookup.specs.Find.{Partner, partner, nothing, findTs, findSeq}
+use Rattle.lookup.specs.Find.{Partner, partner, nothing, find_ts, find_seq}
 use Rattle.lookup.specs.declared.FindOption.{FindOption}
-use Rattle.explaining.specs.Reason.{reasonOf}
+use Rattle.explaining.specs.Reason.{reason_of}
 use Rattle.explaining.specs.declared.Reason.{Reason}
 use Rattle.explaining.specs.declared.WhyTs.{WhyTs}
 use Rattle.explaining.specs.declared.WhyTs.TheVariants as ts
@@ -26,20 +26,20 @@ because r (gave a) = gave (record { reason = r; answer = a })
 because r (refused what) = refused what
 
 -- `why_ts`: what `find_ts` tells, and why
-abbrev pub whyTs : SequenceTracker → List ℕ → List ℤ → Seq → FindOption → Told (Why Second)
-whyTs table seqs secs seq opt = because (reasonOf ltb 0 opt seqs table.count seq.0) (findTs table seqs secs seq opt)
+abbrev pub why_ts : SequenceTracker → List ℕ → List ℤ → Seq → FindOption → Told (Why Second)
+why_ts table seqs secs seq opt = because (reason_of ltb 0 opt seqs table.count seq.0) (find_ts table seqs secs seq opt)
 
 -- `why_seq`: what `find_seq` tells, and why
-abbrev pub whySeq : SequenceTracker → List ℕ → List ℤ → Second → FindOption → Told (Why Seq)
-whySeq table seqs secs ts opt = because (reasonOf lt_z (pos 0) opt secs table.count ts.0) (findSeq table seqs secs ts opt)
+abbrev pub why_seq : SequenceTracker → List ℕ → List ℤ → Second → FindOption → Told (Why Seq)
+why_seq table seqs secs ts opt = because (reason_of lt_z (pos 0) opt secs table.count ts.0) (find_seq table seqs secs ts opt)
 
 -- what their answers tell
-abbrev pub toldWhyTs : WhyTs → Told (Why Second)
-toldWhyTs (ts.Answered r s) = gave (record { reason = r; answer = partner s })
-toldWhyTs (ts.Nothing r) = gave (record { reason = r; answer = nothing })
-toldWhyTs (ts.Refused why) = refused (told why)
+abbrev pub told_why_ts : WhyTs → Told (Why Second)
+told_why_ts (ts.Answered r s) = gave (record { reason = r; answer = partner s })
+told_why_ts (ts.Nothing r) = gave (record { reason = r; answer = nothing })
+told_why_ts (ts.Refused why) = refused (told why)
 
-abbrev pub toldWhySeq : WhySeq → Told (Why Seq)
-toldWhySeq (seq.Answered r q) = gave (record { reason = r; answer = partner q })
-toldWhySeq (seq.Nothing r) = gave (record { reason = r; answer = nothing })
-toldWhySeq (seq.Refused why) = refused (told why)
+abbrev pub told_why_seq : WhySeq → Told (Why Seq)
+told_why_seq (seq.Answered r q) = gave (record { reason = r; answer = partner q })
+told_why_seq (seq.Nothing r) = gave (record { reason = r; answer = nothing })
+told_why_seq (seq.Refused why) = refused (told why)

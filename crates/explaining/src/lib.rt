@@ -1,6 +1,6 @@
 // Why a lookup answers as it does: the reason, with the positions that it names, beside the lookup's own answer.
 ghost use Rattle.std.specs.Prelude.{◌≡◌};
-ghost use Rattle.explaining.specs.Why.{whyTs, whySeq, toldWhyTs, toldWhySeq};
+ghost use Rattle.explaining.specs.Why.{why_ts, why_seq, told_why_ts, told_why_seq};
 
 use lookup::FindOption;
 use tracker::{Checked, Refusal, Second, Seq, SequenceTracker, check};
@@ -53,7 +53,7 @@ pub fn why_ts(
     seq: Seq,
     find_opt: FindOption,
 ) -> WhyTs
-    ensures { toldWhyTs result ≡ whyTs table seqs.now secs.now seq find_opt }
+    ensures { told_why_ts result ≡ why_ts table seqs.now secs.now seq find_opt }
 {
     let checked = check(table, seqs, secs);
     match checked {
@@ -80,7 +80,7 @@ pub fn why_seq(
     ts: Second,
     find_opt: FindOption,
 ) -> WhySeq
-    ensures { toldWhySeq result ≡ whySeq table seqs.now secs.now ts find_opt }
+    ensures { told_why_seq result ≡ why_seq table seqs.now secs.now ts find_opt }
 {
     let checked = check(table, seqs, secs);
     match checked {

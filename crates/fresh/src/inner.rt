@@ -1,6 +1,6 @@
 // The one place where a state is built that no offer has changed: restore makes its tables here too.
 ghost use Rattle.std.specs.Prelude.{◌≡◌};
-ghost use Rattle.fresh.specs.Fresh.{freshTable};
+ghost use Rattle.fresh.specs.Fresh.{fresh_table};
 
 use tracker::{LastRecorded, SequenceTracker};
 
@@ -10,7 +10,7 @@ pub fn fresh(
     count: usize,
     last_recorded_ts: LastRecorded,
 ) -> SequenceTracker
-    ensures { result ≡ freshTable capacity interval_secs count last_recorded_ts }
+    ensures { result ≡ fresh_table capacity interval_secs count last_recorded_ts }
 {
     let none = totals::inner::no_totals();
     SequenceTracker {

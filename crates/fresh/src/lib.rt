@@ -1,7 +1,7 @@
 // Tables just made: empty ones, at the default settings or at settings that are named.
 ghost use Rattle.std.specs.Prelude.{◌≡◌};
-ghost use Rattle.tracker.specs.Refusal.{toldMade};
-ghost use Rattle.fresh.specs.Fresh.{newTable, configOf};
+ghost use Rattle.tracker.specs.Refusal.{told_made};
+ghost use Rattle.fresh.specs.Fresh.{new_table, config_of};
 
 use tracker::{LastRecorded, Made, Refusal, SequenceTracker};
 
@@ -14,7 +14,7 @@ pub const DEFAULT_INTERVAL_SECS: u64 = 10;
 
 // An empty table with the default settings.
 pub fn new() -> SequenceTracker
-    ensures { result ≡ newTable }
+    ensures { result ≡ new_table }
 {
     inner::fresh(
         DEFAULT_CAPACITY,
@@ -26,7 +26,7 @@ pub fn new() -> SequenceTracker
 
 // An empty table with the settings named, if they are valid.
 pub fn with_config(capacity: u32, interval_secs: u64) -> Made
-    ensures { toldMade result ≡ configOf capacity interval_secs }
+    ensures { told_made result ≡ config_of capacity interval_secs }
 {
     if limits::inner::bad_settings(capacity, interval_secs) {
         return Made::Refused(Refusal::Settings);

@@ -9,18 +9,18 @@ use lib.Dec.{ltb, eqb}
 use lib.ListN.{length, get_or, take, drop, length-append, length-drop, take-append-drop}
 use lib.Seq.{take-append-le, drop-append-le, length-take-le}
 use Rattle.signed.specs.Signed.{pattern}
-use Rattle.bit_lists.specs.BitList.{bits_of, natFrom}
-use Rattle.bit_lists.proofs.Lists.{length-bitsOf, bitsOf-append}
+use Rattle.bit_lists.specs.BitList.{bits_of, nat_from}
+use Rattle.bit_lists.proofs.Lists.{length-bits_of, bits_of-append}
 use Rattle.bits.specs.Place.{place_of}
 use Rattle.gorilla.specs.Rows.{widths}
-use Rattle.gorilla.specs.Parser.{read, refused, Reader, and_then, ◌>>=◌, give, require, takeBits, with, item, toldAt, align}
-use Rattle.gorilla.specs.Reading.{cutNumber, count_ones, read_code, readCodes, readValues, readArray, leCount, readPart, Pairs, readArrays, readPairs, readImage}
+use Rattle.gorilla.specs.Parser.{read, refused, Reader, and_then, ◌>>=◌, give, require, take_bits, with, item, told_at, align}
+use Rattle.gorilla.specs.Reading.{cut_number, count_ones, read_code, read_codes, read_values, read_array, le_count, read_part, Pairs, read_arrays, read_pairs, read_image}
 use Rattle.gorilla.specs.Stops.{TellsPlace, CutRefused}
-use Rattle.gorilla.proofs.Taking.{enough, few, were-enough}
-use Rattle.gorilla.proofs.Readers.{refused-not-read, item-was, item-read}
+use Rattle.gorilla.proofs.Taking.{enough, few, were_enough}
+use Rattle.gorilla.proofs.Readers.{refused_not_read, item_was, item-read}
 use Rattle.gorilla.proofs.Counts.{both}
 use Rattle.gorilla.proofs.Ignored.{count-length, Steps, steps_of}
-use Rattle.gorilla.proofs.Stops.{stops-there}
+use Rattle.gorilla.proofs.Stops.{stops_there}
 
 -- What a reader makes of bs, where with `more` after them it reads x and leaves `left`: it reads x too and leaves all but `more`, or it is refused with an l of
 -- which P holds.
@@ -33,39 +33,39 @@ record Cuts {A : Type 0} (P : List ℕ → Type 0) (m : ℕ → Reader A) : Type
   cuts : (n n' : ℕ) (bs more left : List ℕ) (x : A) → length more % 8 ≡ 0 → m n (bs ++ more) ≡ read x left → Cut P (m n') bs more x left
 
 module _ (P : List ℕ → Type 0) where
-  give-cuts : {A : Type 0} (x : A) → Cuts P (λ n. give x)
-  give-cuts x = record {
+  give_cuts : {A : Type 0} (x : A) → Cuts P (λ n. give x)
+  give_cuts x = record {
     cuts = λ n n' bs more left y w h. let e : x ≡ y = cc in let f : bs ++ more ≡ left = cc in kept bs (ap (λ u. read u bs) e) (sym f);
   }
 
-  require-cuts : (b : Bool) (l : List ℕ) → Cuts P (λ n. require b l)
-  require-cuts true l = give-cuts tt
-  require-cuts false l = record { cuts = λ n n' bs more left y w h. refused-not-read h }
+  require_cuts : (b : Bool) (l : List ℕ) → Cuts P (λ n. require b l)
+  require_cuts true l = give_cuts tt
+  require_cuts false l = record { cuts = λ n n' bs more left y w h. refused_not_read h }
 
-  bits-cuts : (k : ℕ) (l : List ℕ) → P l → Cuts P (λ n. takeBits k l)
-  bits-cuts k l q = record { cuts = λ n n' bs more left x w h. go bs more left x h (ltb (length bs) k) refl }
+  bits_cuts : (k : ℕ) (l : List ℕ) → P l → Cuts P (λ n. take_bits k l)
+  bits_cuts k l q = record { cuts = λ n n' bs more left x w h. go bs more left x h (ltb (length bs) k) refl }
     where
-      go : (bs more left : List ℕ) (x : ℕ) → takeBits k l (bs ++ more) ≡ read x left → (t : Bool) → ltb (length bs) k ≡ t → Cut P (takeBits k l) bs more x left
+      go : (bs more left : List ℕ) (x : ℕ) → take_bits k l (bs ++ more) ≡ read x left → (t : Bool) → ltb (length bs) k ≡ t → Cut P (take_bits k l) bs more x left
       go bs more left x h true e = lost l (few l k bs (ltb-true (length bs) k e)) q
       go bs more left x h false e =
           let o : k ≤ length bs = ltb-false (length bs) k e in
-          let w = were-enough l k (bs ++ more) h in
-          kept (drop k bs) (enough l k bs o ∙ ap (λ (v : ℕ). read v (drop k bs)) (ap (natFrom 0) (sym (take-append-le k bs more o)) ∙ sym w.1)) (w.2 ∙ drop-append-le k bs more o)
+          let w = were_enough l k (bs ++ more) h in
+          kept (drop k bs) (enough l k bs o ∙ ap (λ (v : ℕ). read v (drop k bs)) (ap (nat_from 0) (sym (take-append-le k bs more o)) ∙ sym w.1)) (w.2 ∙ drop-append-le k bs more o)
 
-  ones-cuts : ((k : ℕ) (l : List ℕ) → P (cutNumber k ∷ l)) → (a i k c : ℕ) (bs more left : List ℕ) (x : ℕ) → count_ones a i k c (bs ++ more) ≡ read x left
+  ones_cuts : ((k : ℕ) (l : List ℕ) → P (cut_number k ∷ l)) → (a i k c : ℕ) (bs more left : List ℕ) (x : ℕ) → count_ones a i k c (bs ++ more) ≡ read x left
       → Cut P (count_ones a i k c) bs more x left
   unfolding count_ones
-  ones-cuts q a i zero c bs more left x h = let e : c ≡ x = cc in let f : bs ++ more ≡ left = cc in kept bs (ap (λ (u : ℕ). read u bs) e) (sym f)
-  ones-cuts q a i (suc k) c [] more left x h = lost (cutNumber c ∷ a ∷ i ∷ []) refl (q c (a ∷ i ∷ []))
-  ones-cuts q a i (suc k) c (zero ∷ bs) more left x h = let e : c ≡ x = cc in let f : bs ++ more ≡ left = cc in kept bs (ap (λ (u : ℕ). read u bs) e) (sym f)
-  ones-cuts q a i (suc k) c (suc b ∷ bs) more left x h = again (ones-cuts q a i k (c + 1) bs more left x h)
+  ones_cuts q a i zero c bs more left x h = let e : c ≡ x = cc in let f : bs ++ more ≡ left = cc in kept bs (ap (λ (u : ℕ). read u bs) e) (sym f)
+  ones_cuts q a i (suc k) c [] more left x h = lost (cut_number c ∷ a ∷ i ∷ []) refl (q c (a ∷ i ∷ []))
+  ones_cuts q a i (suc k) c (zero ∷ bs) more left x h = let e : c ≡ x = cc in let f : bs ++ more ≡ left = cc in kept bs (ap (λ (u : ℕ). read u bs) e) (sym f)
+  ones_cuts q a i (suc k) c (suc b ∷ bs) more left x h = again (ones_cuts q a i k (c + 1) bs more left x h)
     where
       again : Cut P (count_ones a i k (c + 1)) bs more x left → Cut P (count_ones a i (suc k) c) (suc b ∷ bs) more x left
       again (kept r e f) = kept r e f
       again (lost l e f) = lost l e f
 
-  then-cuts : {A B : Type 0} {m : ℕ → Reader A} {f : A → ℕ → Reader B} → Cuts P m → ((x : A) → Cuts P (f x)) → Cuts P (λ n. ◌>>=◌ (m n) (λ x. f x n))
-  then-cuts {A} {B} {m} {f} M F = record {
+  then_cuts : {A B : Type 0} {m : ℕ → Reader A} {f : A → ℕ → Reader B} → Cuts P m → ((x : A) → Cuts P (f x)) → Cuts P (λ n. ◌>>=◌ (m n) (λ x. f x n))
+  then_cuts {A} {B} {m} {f} M F = record {
     cuts = λ n n' bs more left y w h.
         let b = both (m n (bs ++ more)) (λ x. f x n) h in
         first n n' bs more left y w b.value b.between b.second (M.cuts n n' bs more b.between b.value w b.first);
@@ -81,15 +81,15 @@ module _ (P : List ℕ → Type 0) where
       first n n' bs more left y w x mid h (lost l e g) = lost l (rw e) g
 
   -- an item that is refused tells a place, which P does not look at
-  item-cuts : ((l k : List ℕ) → P l → P (l ++ k)) → {A : Type 0} {m : ℕ → Reader A} → Cuts P m → Cuts P (λ n. item n (m n))
-  item-cuts q {A} {m} M = record { cuts = λ n n' bs more left x w h. go n' bs more left x (M.cuts n n' bs more left x w (item-was n (m n) (bs ++ more) h)) }
+  item_cuts : ((l k : List ℕ) → P l → P (l ++ k)) → {A : Type 0} {m : ℕ → Reader A} → Cuts P m → Cuts P (λ n. item n (m n))
+  item_cuts q {A} {m} M = record { cuts = λ n n' bs more left x w h. go n' bs more left x (M.cuts n n' bs more left x w (item_was n (m n) (bs ++ more) h)) }
     where
       go : (n' : ℕ) (bs more left : List ℕ) (x : A) → Cut P (m n') bs more x left → Cut P (item n' (m n')) bs more x left
       go n' bs more left x (kept r e g) = kept r (item-read n' (m n') bs e) g
-      go n' bs more left x (lost l e g) = lost (with l (place_of (n' - length bs))) (ap (toldAt (n' - length bs)) e) (q l _ g)
+      go n' bs more left x (lost l e g) = lost (with l (place_of (n' - length bs))) (ap (told_at (n' - length bs)) e) (q l _ g)
 
-  align-cuts : Cuts P (λ n. align)
-  align-cuts = record {
+  align_cuts : Cuts P (λ n. align)
+  align_cuts = record {
     cuts = λ n n' bs more left x w h.
         let k : ℕ = length bs % 8 in
         let e : drop (length (bs ++ more) % 8) (bs ++ more) ≡ left = cc in
@@ -103,47 +103,47 @@ place-told : (l k : List ℕ) → TellsPlace l → TellsPlace (l ++ k)
 place-told [] k h = absurd (omega (arith, h.0))
 place-told (x ∷ l) k h = h
 
-cut-number : (k : ℕ) (l : List ℕ) → TellsPlace (cutNumber k ∷ l)
-unfolding cutNumber
-cut-number zero l = (omega arith, omega arith)
-cut-number (suc k) l = (omega arith, omega arith)
+cut_number_lem : (k : ℕ) (l : List ℕ) → TellsPlace (cut_number k ∷ l)
+unfolding cut_number
+cut_number_lem zero l = (omega arith, omega arith)
+cut_number_lem (suc k) l = (omega arith, omega arith)
 
-code-cuts : (a i : ℕ) → Cuts TellsPlace (λ n. read_code n a i)
+code_cuts : (a i : ℕ) → Cuts TellsPlace (λ n. read_code n a i)
 unfolding read_code
-code-cuts a i =
-    item-cuts TellsPlace place-told
-    (then-cuts TellsPlace (record { cuts = λ n n' bs more left x w h. ones-cuts TellsPlace cut-number a i 4 0 bs more left x h }) (λ k.
-    then-cuts TellsPlace (bits-cuts TellsPlace (get_or widths k 0) (8 ∷ a ∷ i ∷ get_or widths k 0 ∷ []) (omega arith, omega arith)) (λ v. give-cuts TellsPlace _)))
+code_cuts a i =
+    item_cuts TellsPlace place-told
+    (then_cuts TellsPlace (record { cuts = λ n n' bs more left x w h. ones_cuts TellsPlace cut_number_lem a i 4 0 bs more left x h }) (λ k.
+    then_cuts TellsPlace (bits_cuts TellsPlace (get_or widths k 0) (8 ∷ a ∷ i ∷ get_or widths k 0 ∷ []) (omega arith, omega arith)) (λ v. give_cuts TellsPlace _)))
 
-codes-cuts : (a k i : ℕ) → Cuts TellsPlace (λ n. readCodes n a k i)
-unfolding readCodes
-codes-cuts a zero i = give-cuts TellsPlace []
-codes-cuts a (suc k) i = then-cuts TellsPlace (code-cuts a i) (λ d. then-cuts TellsPlace (codes-cuts a k (i + 1)) (λ ds. give-cuts TellsPlace (d ∷ ds)))
+codes_cuts : (a k i : ℕ) → Cuts TellsPlace (λ n. read_codes n a k i)
+unfolding read_codes
+codes_cuts a zero i = give_cuts TellsPlace []
+codes_cuts a (suc k) i = then_cuts TellsPlace (code_cuts a i) (λ d. then_cuts TellsPlace (codes_cuts a k (i + 1)) (λ ds. give_cuts TellsPlace (d ∷ ds)))
 
-values-cuts : (a c : ℕ) → Cuts TellsPlace (λ n. readValues n a c)
-unfolding readValues
-values-cuts a zero = give-cuts TellsPlace []
-values-cuts a (suc k) =
-    then-cuts TellsPlace (item-cuts TellsPlace place-told (bits-cuts TellsPlace 64 (5 ∷ a ∷ []) (omega arith, omega arith))) (λ v. then-cuts TellsPlace (codes-cuts a k 1) (λ ds. give-cuts TellsPlace _))
+values_cuts : (a c : ℕ) → Cuts TellsPlace (λ n. read_values n a c)
+unfolding read_values
+values_cuts a zero = give_cuts TellsPlace []
+values_cuts a (suc k) =
+    then_cuts TellsPlace (item_cuts TellsPlace place-told (bits_cuts TellsPlace 64 (5 ∷ a ∷ []) (omega arith, omega arith))) (λ v. then_cuts TellsPlace (codes_cuts a k 1) (λ ds. give_cuts TellsPlace _))
 
-part-cuts : (a : ℕ) (room : ℕ → Bool) (c : ℕ) → Cuts TellsPlace (λ n. readPart n a room c)
-unfolding readPart readArray
-part-cuts a room c =
-    then-cuts TellsPlace
-    (then-cuts TellsPlace (item-cuts TellsPlace place-told (bits-cuts TellsPlace 32 (4 ∷ a ∷ []) (omega arith, omega arith))) (λ k. then-cuts TellsPlace (require-cuts TellsPlace (room k) _) (λ u. values-cuts a k))) (λ xs.
-    then-cuts TellsPlace (require-cuts TellsPlace (eqb (length xs) c) _) (λ u. then-cuts TellsPlace (align-cuts TellsPlace) (λ v. give-cuts TellsPlace xs)))
+part_cuts : (a : ℕ) (room : ℕ → Bool) (c : ℕ) → Cuts TellsPlace (λ n. read_part n a room c)
+unfolding read_part read_array
+part_cuts a room c =
+    then_cuts TellsPlace
+    (then_cuts TellsPlace (item_cuts TellsPlace place-told (bits_cuts TellsPlace 32 (4 ∷ a ∷ []) (omega arith, omega arith))) (λ k. then_cuts TellsPlace (require_cuts TellsPlace (room k) _) (λ u. values_cuts a k))) (λ xs.
+    then_cuts TellsPlace (require_cuts TellsPlace (eqb (length xs) c) _) (λ u. then_cuts TellsPlace (align_cuts TellsPlace) (λ v. give_cuts TellsPlace xs)))
 
-arrays-cuts : (room : ℕ → Bool) (c : ℕ) → Cuts TellsPlace (λ n. readArrays n room c)
-arrays-cuts room c = then-cuts TellsPlace (part-cuts 0 room c) (λ xs. then-cuts TellsPlace (part-cuts 1 room c) (λ ys. give-cuts TellsPlace _))
+arrays_cuts : (room : ℕ → Bool) (c : ℕ) → Cuts TellsPlace (λ n. read_arrays n room c)
+arrays_cuts room c = then_cuts TellsPlace (part_cuts 0 room c) (λ xs. then_cuts TellsPlace (part_cuts 1 room c) (λ ys. give_cuts TellsPlace _))
 
 -- ---- the header
 -- a count that has its 32 bits is read
-abbrev countIn : List ℕ → ℕ
-countIn bs =
-    natFrom 0 (take 8 bs) + 256 * (natFrom 0 (take 8 (drop 8 bs)) + 256 * (natFrom 0 (take 8 (drop 8 (drop 8 bs))) + 256 * natFrom 0 (take 8 (drop 8 (drop 8 (drop 8 bs))))))
+abbrev count_in : List ℕ → ℕ
+count_in bs =
+    nat_from 0 (take 8 bs) + 256 * (nat_from 0 (take 8 (drop 8 bs)) + 256 * (nat_from 0 (take 8 (drop 8 (drop 8 bs))) + 256 * nat_from 0 (take 8 (drop 8 (drop 8 (drop 8 bs))))))
 
-count-there : (l bs : List ℕ) → 32 ≤ length bs → leCount l bs ≡ read (countIn bs) (drop 8 (drop 8 (drop 8 (drop 8 bs))))
-unfolding leCount
+count-there : (l bs : List ℕ) → 32 ≤ length bs → le_count l bs ≡ read (count_in bs) (drop 8 (drop 8 (drop 8 (drop 8 bs))))
+unfolding le_count
 count-there l bs h =
     let d₁ = length-drop 8 bs in
     let d₂ = length-drop 8 (drop 8 bs) in
@@ -154,15 +154,15 @@ count-there l bs h =
 abbrev Is : List ℕ → List ℕ → Type 0
 Is k l = l ≡ k
 
-count-cuts : (k : List ℕ) → Cuts (Is k) (λ n. leCount k)
-unfolding leCount
-count-cuts k = then-cuts (Is k) byte (λ a. then-cuts (Is k) byte (λ b. then-cuts (Is k) byte (λ c. then-cuts (Is k) byte (λ d. give-cuts (Is k) _))))
+count_cuts : (k : List ℕ) → Cuts (Is k) (λ n. le_count k)
+unfolding le_count
+count_cuts k = then_cuts (Is k) byte (λ a. then_cuts (Is k) byte (λ b. then_cuts (Is k) byte (λ c. then_cuts (Is k) byte (λ d. give_cuts (Is k) _))))
   where
-    byte : Cuts (λ l. l ≡ k) (λ n. takeBits 8 k)
-    byte = bits-cuts (λ l. l ≡ k) 8 k refl
+    byte : Cuts (λ l. l ≡ k) (λ n. take_bits 8 k)
+    byte = bits_cuts (λ l. l ≡ k) 8 k refl
 
 -- ---- an image: its header, and its arrays
-module _ (room : ℕ → Bool) (bytes left : List ℕ) (p : Pairs) (k : ℕ) (h : readImage room bytes ≡ read p left) (o : k < length bytes - length left / 8) where
+module _ (room : ℕ → Bool) (bytes left : List ℕ) (p : Pairs) (k : ℕ) (h : read_image room bytes ≡ read p left) (o : k < length bytes - length left / 8) where
   abbrev cut : List ℕ
   cut = take k bytes
 
@@ -173,75 +173,75 @@ module _ (room : ℕ → Bool) (bytes left : List ℕ) (p : Pairs) (k : ℕ) (h 
   length_cut = length-take-le k bytes (omega (arith, o))
 
   length_more : length more ≡ (length bytes - k) * 8
-  length_more = length-bitsOf (drop k bytes) ∙ ap (λ (u : ℕ). u * 8) (length-drop k bytes)
+  length_more = length-bits_of (drop k bytes) ∙ ap (λ (u : ℕ). u * 8) (length-drop k bytes)
 
   parts : bits_of bytes ≡ bits_of cut ++ more
-  parts = ap bits_of (sym (take-append-drop k bytes)) ∙ bitsOf-append cut (drop k bytes)
+  parts = ap bits_of (sym (take-append-drop k bytes)) ∙ bits_of-append cut (drop k bytes)
 
   s : Steps (length bytes * 8) room (bits_of cut ++ more) p left
-  s = steps_of (length bytes * 8) room (bits_of cut ++ more) left p (ap (readPairs (length bytes * 8) room) (sym parts) ∙ h)
+  s = steps_of (length bytes * 8) room (bits_of cut ++ more) left p (ap (read_pairs (length bytes * 8) room) (sym parts) ∙ h)
 
   -- where the version is there
   abbrev Version : Type 0
-  Version = (mid : List ℕ) × (takeBits 8 (1 ∷ []) (bits_of cut) ≡ read 1 mid) × (s.after-version ≡ mid ++ more) × (length mid ≡ k * 8 - 8)
+  Version = (mid : List ℕ) × (take_bits 8 (1 ∷ []) (bits_of cut) ≡ read 1 mid) × (s.after_version ≡ mid ++ more) × (length mid ≡ k * 8 - 8)
 
   version : 1 ≤ k → Version
-  version l = go ((bits-cuts (λ u. Unit {0}) 8 (1 ∷ []) tt).cuts 0 0 (bits_of cut) more s.after-version 1 (omega (arith, length_more)) s.version-read)
+  version l = go ((bits_cuts (λ u. Unit {0}) 8 (1 ∷ []) tt).cuts 0 0 (bits_of cut) more s.after_version 1 (omega (arith, length_more)) s.version_read)
     where
-      go : Cut (λ u. Unit {0}) (takeBits 8 (1 ∷ [])) (bits_of cut) more 1 s.after-version → Version
-      go (kept mid e f) = let v = were-enough (1 ∷ []) 8 (bits_of cut) e in (mid, e, f, ap length v.2 ∙ length-drop 8 (bits_of cut) ∙ ap (λ (u : ℕ). u - 8) (length-bitsOf cut ∙ ap (λ (u : ℕ). u * 8) length_cut))
-      go (lost k e f) = refused-not-read (sym e ∙ enough (1 ∷ []) 8 (bits_of cut) (omega (arith, length-bitsOf cut, length_cut)))
+      go : Cut (λ u. Unit {0}) (take_bits 8 (1 ∷ [])) (bits_of cut) more 1 s.after_version → Version
+      go (kept mid e f) = let v = were_enough (1 ∷ []) 8 (bits_of cut) e in (mid, e, f, ap length v.2 ∙ length-drop 8 (bits_of cut) ∙ ap (λ (u : ℕ). u - 8) (length-bits_of cut ∙ ap (λ (u : ℕ). u * 8) length_cut))
+      go (lost k e f) = refused_not_read (sym e ∙ enough (1 ∷ []) 8 (bits_of cut) (omega (arith, length-bits_of cut, length_cut)))
 
   -- no byte
-  pub no_byte : length cut ≡ 0 → readImage room cut ≡ refused (1 ∷ [])
-  unfolding readPairs
-  no_byte e = rw (few (1 ∷ []) 8 (bits_of cut) (omega (arith, length-bitsOf cut)))
+  pub no_byte : length cut ≡ 0 → read_image room cut ≡ refused (1 ∷ [])
+  unfolding read_pairs
+  no_byte e = rw (few (1 ∷ []) 8 (bits_of cut) (omega (arith, length-bits_of cut)))
 
   -- the count, of what follows the version
   abbrev Header : List ℕ → Type 0
-  Header mid = Cut (Is (3 ∷ [])) (leCount (3 ∷ [])) mid more s.count s.after-header
+  Header mid = Cut (Is (3 ∷ [])) (le_count (3 ∷ [])) mid more s.count s.after-header
 
   header : (v : Version) → Header v.0
-  header v = (count-cuts (3 ∷ [])).cuts 0 0 v.0 more s.after-header s.count (omega (arith, length_more)) (ap (leCount (3 ∷ [])) (sym v.2) ∙ s.count-read)
+  header v = (count_cuts (3 ∷ [])).cuts 0 0 v.0 more s.after-header s.count (omega (arith, length_more)) (ap (le_count (3 ∷ [])) (sym v.2) ∙ s.count-read)
 
   -- one to four bytes
-  pub in-header : 1 ≤ length cut → length cut ≤ 4 → readImage room cut ≡ refused (3 ∷ [])
-  unfolding readPairs
-  in-header l m =
+  pub in_header : 1 ≤ length cut → length cut ≤ 4 → read_image room cut ≡ refused (3 ∷ [])
+  unfolding read_pairs
+  in_header l m =
       let v = version (omega (arith, length_cut)) in
       rw v.1 (go v.0 v.3 (header v))
     where
-      go : (mid : List ℕ) → length mid ≡ k * 8 - 8 → Header mid → and_then (leCount (3 ∷ []) mid) (λ n. readArrays (length cut * 8) room n) ≡ refused (3 ∷ [])
+      go : (mid : List ℕ) → length mid ≡ k * 8 - 8 → Header mid → and_then (le_count (3 ∷ []) mid) (λ n. read_arrays (length cut * 8) room n) ≡ refused (3 ∷ [])
       go mid e (kept r f g) = absurd (omega (arith, count-length (3 ∷ []) mid r s.count f, length_cut))
       go mid e (lost l f g) = rw f (ap (λ (u : List ℕ). refused u) g)
 
   -- more
   abbrev In : Type 0
-  In = (l : List ℕ) × (readImage room cut ≡ refused l) × TellsPlace l
+  In = (l : List ℕ) × (read_image room cut ≡ refused l) × TellsPlace l
 
-  arrays-read : readArrays (length bytes * 8) room s.count s.after-header ≡ read (record { seqs = map pattern s.values; secs = p.secs }) left
-  arrays-read = rw s.seqs-read (rw s.secs-read)
+  arrays-read : read_arrays (length bytes * 8) room s.count s.after-header ≡ read (record { seqs = map pattern s.values; secs = p.secs }) left
+  arrays-read = rw s.seqs_read (rw s.secs_read)
 
-  in-arrays : 5 ≤ length cut → In
-  unfolding readPairs
-  in-arrays l =
+  in_arrays : 5 ≤ length cut → In
+  unfolding read_pairs
+  in_arrays l =
       let v = version (omega (arith, length_cut)) in
       go v.0 v.1 v.3 (header v)
     where
-      last : (mid r : List ℕ) → takeBits 8 (1 ∷ []) (bits_of cut) ≡ read 1 mid → leCount (3 ∷ []) mid ≡ read s.count r
-          → Cut TellsPlace (readArrays (length cut * 8) room s.count) r more (record { seqs = map pattern s.values; secs = p.secs }) left → In
+      last : (mid r : List ℕ) → take_bits 8 (1 ∷ []) (bits_of cut) ≡ read 1 mid → le_count (3 ∷ []) mid ≡ read s.count r
+          → Cut TellsPlace (read_arrays (length cut * 8) room s.count) r more (record { seqs = map pattern s.values; secs = p.secs }) left → In
       last mid r e f (kept q g t) = absurd (omega (arith, o, length_more, ap length t, length-append q more))
       last mid r e f (lost k g t) = (k, rw e (rw f g), t)
 
-      go : (mid : List ℕ) → takeBits 8 (1 ∷ []) (bits_of cut) ≡ read 1 mid → length mid ≡ k * 8 - 8 → Header mid → In
+      go : (mid : List ℕ) → take_bits 8 (1 ∷ []) (bits_of cut) ≡ read 1 mid → length mid ≡ k * 8 - 8 → Header mid → In
       go mid e f (kept r g t) =
-          last mid r e g ((arrays-cuts room s.count).cuts (length bytes * 8) (length cut * 8) r more left _ (omega (arith, length_more))
-          (ap (readArrays (length bytes * 8) room s.count) (sym t) ∙ arrays-read))
-      go mid e f (lost k g t) = refused-not-read (sym g ∙ count-there (3 ∷ []) mid (omega (arith, length_cut)))
+          last mid r e g ((arrays_cuts room s.count).cuts (length bytes * 8) (length cut * 8) r more left _ (omega (arith, length_more))
+          (ap (read_arrays (length bytes * 8) room s.count) (sym t) ∙ arrays-read))
+      go mid e f (lost k g t) = refused_not_read (sym g ∙ count-there (3 ∷ []) mid (omega (arith, length_cut)))
 
-pub cut-refused : CutRefused
-cut-refused room bytes left p k h o = record {
+pub cut_refused : CutRefused
+cut_refused room bytes left p k h o = record {
   empty = no_byte room bytes left p k h o;
-  header = in-header room bytes left p k h o;
-  arrays = λ l. let r = in-arrays room bytes left p k h o l in (r.0, r.1, stops-there room (take k bytes) r.0 r.1 r.2);
+  header = in_header room bytes left p k h o;
+  arrays = λ l. let r = in_arrays room bytes left p k h o l in (r.0, r.1, stops_there room (take k bytes) r.0 r.1 r.2);
 }

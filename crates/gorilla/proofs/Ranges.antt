@@ -14,9 +14,9 @@ use mir.Facts.{to_z-of_z}
 use Rattle.signed.proofs.Signs.{never, nevers}
 
 -- a test and true is the test
-and-true : (b : Bool) → (b && true) ≡ b
-and-true true = refl
-and-true false = refl
+and_true : (b : Bool) → (b && true) ≡ b
+and_true true = refl
+and_true false = refl
 
 -- The tests of `-a..=a` and of wider ranges `-b..=b` around it, for a = suc m and b = suc n, in the order of the number line. A test reads z by its bits.
 abbrev seen : ℤ → ℤ
@@ -64,13 +64,13 @@ module _ (z : ℤ) (f : SFits w64 z) where
   over n e = over' n z (rw (to_z-of_z f) at e)
 
 -- a single number among the patterns is a fact of the bits: 0, and not 0
-pub is-0 : (z : ℤ) → SFits w64 z → of_z w64 z ≡ 0 → nat_abs z ≤ 0
-is-0 (pos n) f e = omega arith
-is-0 (negsuc n) f e = omega (arith, f.sfits)
+pub is_0 : (z : ℤ) → SFits w64 z → of_z w64 z ≡ 0 → nat_abs z ≤ 0
+is_0 (pos n) f e = omega arith
+is_0 (negsuc n) f e = omega (arith, f.sfits)
 
-pub not-0 : (z : ℤ) → (of_z w64 z ≡ 0 → ⊥) → 0 < nat_abs z
-not-0 (pos n) f = omega arith
-not-0 (negsuc n) f = omega arith
+pub not_0 : (z : ℤ) → (of_z w64 z ≡ 0 → ⊥) → 0 < nat_abs z
+not_0 (pos n) f = omega arith
+not_0 (negsuc n) f = omega arith
 
 -- ---- the tests of `-(n + 1)..=n`
 module _ (n : ℕ) where
@@ -78,29 +78,29 @@ module _ (n : ℕ) where
   abbrev within : ℤ → Bool
   within z = le_z (negsuc n) z && le_z z (pos n)
 
-  under-range' : (z : ℤ) → lt_z z (negsuc n) ≡ true → within z ≡ false
-  under-range' (pos k) e = never e
-  under-range' (negsuc k) e = rw (lt-leb k n (omega (arith, ltb-true)))
+  under_range' : (z : ℤ) → lt_z z (negsuc n) ≡ true → within z ≡ false
+  under_range' (pos k) e = never e
+  under_range' (negsuc k) e = rw (lt-leb k n (omega (arith, ltb-true)))
 
-  in-range' : (z : ℤ) → lt_z z (negsuc n) ≡ false → lt_z z (pos (suc n)) ≡ true → within z ≡ true
-  in-range' (pos k) e h = le-leb k n (omega (arith, ltb-true))
-  in-range' (negsuc k) e h = rw (le-leb k n (omega (arith, ltb-false)))
+  in_range' : (z : ℤ) → lt_z z (negsuc n) ≡ false → lt_z z (pos (suc n)) ≡ true → within z ≡ true
+  in_range' (pos k) e h = le-leb k n (omega (arith, ltb-true))
+  in_range' (negsuc k) e h = rw (le-leb k n (omega (arith, ltb-false)))
 
-  over-range' : (z : ℤ) → lt_z z (pos (suc n)) ≡ false → within z ≡ false
-  over-range' (pos k) e = lt-leb k n (omega (arith, ltb-false))
-  over-range' (negsuc k) e = nevers e
+  over_range' : (z : ℤ) → lt_z z (pos (suc n)) ≡ false → within z ≡ false
+  over_range' (pos k) e = lt-leb k n (omega (arith, ltb-false))
+  over_range' (negsuc k) e = nevers e
 
   -- which is what the magnitude says
-  pub range-mag : (z : ℤ) → within z ≡ leb (mag z) n
-  range-mag (pos k) = refl
-  range-mag (negsuc k) = and-true (leb k n)
+  pub range_mag : (z : ℤ) → within z ≡ leb (mag z) n
+  range_mag (pos k) = refl
+  range_mag (negsuc k) = and_true (leb k n)
 
   module _ (z : ℤ) (f : SFits w64 z) where
-    pub under-range : lt_z (seen z) (negsuc n) ≡ true → within z ≡ false
-    under-range e = under-range' z (rw (to_z-of_z f) at e)
+    pub under_range : lt_z (seen z) (negsuc n) ≡ true → within z ≡ false
+    under_range e = under_range' z (rw (to_z-of_z f) at e)
 
-    pub in-range : lt_z (seen z) (negsuc n) ≡ false → lt_z (seen z) (pos (suc n)) ≡ true → within z ≡ true
-    in-range e h = in-range' z (rw (to_z-of_z f) at e) (rw (to_z-of_z f) at h)
+    pub in_range : lt_z (seen z) (negsuc n) ≡ false → lt_z (seen z) (pos (suc n)) ≡ true → within z ≡ true
+    in_range e h = in_range' z (rw (to_z-of_z f) at e) (rw (to_z-of_z f) at h)
 
-    pub over-range : lt_z (seen z) (pos (suc n)) ≡ false → within z ≡ false
-    over-range e = over-range' z (rw (to_z-of_z f) at e)
+    pub over_range : lt_z (seen z) (pos (suc n)) ≡ false → within z ≡ false
+    over_range e = over_range' z (rw (to_z-of_z f) at e)

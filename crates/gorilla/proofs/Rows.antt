@@ -7,11 +7,11 @@ use borrow.Author.Tests.{leb-true, leb-false, le-leb, lt-leb}
 use lib.Dec.{leb}
 use lib.IntN.{ℤ, pos, negsuc, nat_abs}
 use lib.Signed.{mag}
-use Rattle.signed.specs.Inner.{lowBits}
+use Rattle.signed.specs.Inner.{low_bits}
 use Rattle.signed.proofs.Widths.{extend-low}
 use Rattle.gorilla.specs.declared.Row.{Row}
-use Rattle.gorilla.specs.Rows.{row, row_at, rowOf, decoded, strict}
-use Rattle.gorilla.proofs.Ranges.{range-mag}
+use Rattle.gorilla.specs.Rows.{row, row_at, row_of, decoded, strict}
+use Rattle.gorilla.proofs.Ranges.{range_mag}
 
 -- ---- the row of a magnitude
 pub row0 : (n : ℕ) → n ≤ 0 → row 0b0 1 0 ≡ row_at n
@@ -30,15 +30,15 @@ pub row4 : (n : ℕ) → 2047 < n → row 0b1111 4 32 ≡ row_at n
 row4 n l = simp (lt-leb n 0 (omega arith), lt-leb n 63 (omega arith), lt-leb n 255 (omega arith), lt-leb n 2047 l)
 
 -- ---- a strict difference is one of magnitude below 2^31, as two's complement counts it
-pub strict-mag : (d : ℤ) → strict d ≡ leb (mag d) 2147483647
+pub strict_mag : (d : ℤ) → strict d ≡ leb (mag d) 2147483647
 unfolding strict
-strict-mag d = range-mag 2147483647 d
+strict_mag d = range_mag 2147483647 d
 
-pub mag-strict : (d : ℤ) → strict d ≡ true → mag d < 2 ^ 31
-mag-strict d s = let h : mag d ≤ 2147483647 = leb-true (mag d) 2147483647 (sym (strict-mag d) ∙ s) in omega arith
+pub mag_strict : (d : ℤ) → strict d ≡ true → mag d < 2 ^ 31
+mag_strict d s = let h : mag d ≤ 2147483647 = leb-true (mag d) 2147483647 (sym (strict_mag d) ∙ s) in omega arith
 
 pub strict_of : (d : ℤ) → mag d < 2 ^ 31 → strict d ≡ true
-strict_of d h = strict-mag d ∙ le-leb (mag d) 2147483647 (omega arith)
+strict_of d h = strict_mag d ∙ le-leb (mag d) 2147483647 (omega arith)
 
 -- ---- d comes back from its low bits, by its own row's width
 pub by_le {ℓ} : {X : Type ℓ} (n k : ℕ) → (n ≤ k → X) → (k < n → X) → X
@@ -48,23 +48,23 @@ by_le {X} n k f g = go (leb n k) refl
     go true e = f (leb-true n k e)
     go false e = g (leb-false n k e)
 
-mag-le : (z : ℤ) → mag z ≤ nat_abs z
-mag-le (pos n) = omega arith
-mag-le (negsuc n) = omega arith
+mag_le : (z : ℤ) → mag z ≤ nat_abs z
+mag_le (pos n) = omega arith
+mag_le (negsuc n) = omega arith
 
-at-0 : (z : ℤ) → nat_abs z ≤ 0 → pos 0 ≡ z
-at-0 (pos n) h = ap pos (omega arith)
-at-0 (negsuc n) h = absurd (omega (arith, h))
+at_0 : (z : ℤ) → nat_abs z ≤ 0 → pos 0 ≡ z
+at_0 (pos n) h = ap pos (omega arith)
+at_0 (negsuc n) h = absurd (omega (arith, h))
 
 module _ (d : ℤ) where
   Back : Row → Type 0
-  Back r = decoded r.width (lowBits r.width d) ≡ d
+  Back r = decoded r.width (low_bits r.width d) ≡ d
 
-  pub reads-back : strict d ≡ true → decoded (rowOf d).width (lowBits (rowOf d).width d) ≡ d
-  unfolding Back rowOf
-  reads-back s =
-      by_le (nat_abs d) 0 (λ h. subst Back (row0 (nat_abs d) h) (at-0 d h)) (λ l₀.
-      by_le (nat_abs d) 63 (λ h. subst Back (row1 (nat_abs d) l₀ h) (extend-low 7 d (omega arith) (omega arith) (omega (arith, mag-le d)))) (λ l₁.
-      by_le (nat_abs d) 255 (λ h. subst Back (row2 (nat_abs d) l₁ h) (extend-low 9 d (omega arith) (omega arith) (omega (arith, mag-le d)))) (λ l₂.
-      by_le (nat_abs d) 2047 (λ h. subst Back (row3 (nat_abs d) l₂ h) (extend-low 12 d (omega arith) (omega arith) (omega (arith, mag-le d)))) (λ l₃.
-      subst Back (row4 (nat_abs d) l₃) (extend-low 32 d (omega arith) (omega arith) (mag-strict d s))))))
+  pub reads_back : strict d ≡ true → decoded (row_of d).width (low_bits (row_of d).width d) ≡ d
+  unfolding Back row_of
+  reads_back s =
+      by_le (nat_abs d) 0 (λ h. subst Back (row0 (nat_abs d) h) (at_0 d h)) (λ l₀.
+      by_le (nat_abs d) 63 (λ h. subst Back (row1 (nat_abs d) l₀ h) (extend-low 7 d (omega arith) (omega arith) (omega (arith, mag_le d)))) (λ l₁.
+      by_le (nat_abs d) 255 (λ h. subst Back (row2 (nat_abs d) l₁ h) (extend-low 9 d (omega arith) (omega arith) (omega (arith, mag_le d)))) (λ l₂.
+      by_le (nat_abs d) 2047 (λ h. subst Back (row3 (nat_abs d) l₂ h) (extend-low 12 d (omega arith) (omega arith) (omega (arith, mag_le d)))) (λ l₃.
+      subst Back (row4 (nat_abs d) l₃) (extend-low 32 d (omega arith) (omega arith) (mag_strict d s))))))

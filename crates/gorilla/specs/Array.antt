@@ -4,6 +4,6 @@ use Rattle.gorilla.specs.declared.Array.{Array}
 use Rattle.gorilla.specs.declared.Array.TheVariants.{Sequences, Seconds}
 
 -- the sequences are array 0, the seconds array 1
-abbrev pub arrayNo : Array → ℕ
-arrayNo Sequences = 0
-arrayNo Seconds = 1
+abbrev pub array_no : Array → ℕ
+array_no Sequences = 0
+array_no Seconds = 1

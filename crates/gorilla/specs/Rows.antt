@@ -22,8 +22,8 @@ row_at n =
     (row 0b1111 4 32))))
 
 -- the row of the difference of deltas d: `nat_abs d` is its magnitude
-unfoldable pub rowOf : ℤ → Row
-rowOf d = row_at (nat_abs d)
+unfoldable pub row_of : ℤ → Row
+row_of d = row_at (nat_abs d)
 
 -- the difference that w bits v stand for: no bits stand for 0
 abbrev pub decoded : ℕ → ℕ → ℤ

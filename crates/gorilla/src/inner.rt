@@ -1,6 +1,6 @@
 // What the encoder and the decoder share, for our own crates.
 ghost use Rattle.std.specs.Prelude.{◌≡◌, ◌≤◌, ◌<◌, ◌^◌, get_or};
-ghost use Rattle.gorilla.specs.Rows.{widths, rowOf, decoded, strict};
+ghost use Rattle.gorilla.specs.Rows.{widths, row_of, decoded, strict};
 ghost use Rattle.gorilla.specs.Inner.{advanced, followed};
 
 use crate::{Coded, Row, Track};
@@ -19,7 +19,7 @@ pub fn width_of(ones: usize) -> u8
 
 // The row of a difference of deltas: the first that matches.
 pub fn row_of(dod: i64) -> Row
-    ensures { result ≡ rowOf dod }
+    ensures { result ≡ row_of dod }
 {
     match dod {
         0 => Row {

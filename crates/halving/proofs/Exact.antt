@@ -10,7 +10,7 @@ use Rattle.order.proofs.Bools.{below_or}
 use Rattle.tracker.specs.declared.TrackedSeq.{TrackedSeq}
 use Rattle.keeping.specs.Keep.{evens}
 use Rattle.keeping.proofs.Thinned.{length-evens}
-use Rattle.halving.proofs.Level.{level, level-mono, level-count, level-from, level-upto, level-least}
+use Rattle.halving.proofs.Level.{level, level_mono, level_count, level_from, level_upto, level_least}
 
 module _ (half : ℕ) (some : 0 < half) where
   -- the place of kept pair i, with which there were l halvings of k
@@ -18,12 +18,12 @@ module _ (half : ℕ) (some : 0 < half) where
   slot k l i = l * half + i * 2 ^ (k - l)
 
   -- where the last of them came with it
-  last-slot : (k i : ℕ) → slot k k i ≡ k * half + i
-  last-slot k i = rw (sub_self k) (omega arith)
+  last_slot : (k i : ℕ) → slot k k i ≡ k * half + i
+  last_slot k i = rw (sub_self k) (omega arith)
 
   -- one halving more
-  next-slot : (k l i : ℕ) → l ≤ k → slot (k + 1) l i ≡ slot k l (i + i)
-  next-slot k l i h =
+  next_slot : (k l i : ℕ) → l ≤ k → slot (k + 1) l i ≡ slot k l (i + i)
+  next_slot k l i h =
       let p = 2 ^ (k - l) in
       let e : k + 1 - l ≡ suc (k - l) = omega arith in
       rw e (omega (arith, ap (λ (n : ℕ). i * n) (two-pow-succ (k - l)) ∙ mul-add i p p, add-mul i i p))
@@ -43,7 +43,7 @@ module _ (half : ℕ) (some : 0 < half) where
   }
     where
       ground : (x : ℕ) → x ≤ half + half → level half some x ≡ 0
-      ground x h = level-count half some x x 0 (omega arith) h (λ b. absurd (omega arith))
+      ground x h = level_count half some x x 0 (omega arith) h (λ b. absurd (omega arith))
 
   module _ (k : ℕ) (rec kept : List TrackedSeq) (at : ℕ → ℕ) (E : Exact k rec kept at) (counted : length rec ≡ length kept + k * half)
       (r : TrackedSeq) (to : ℕ → ℕ) (old : (i : ℕ) → i < length kept → to i ≡ at i) (new : to (length kept) ≡ length rec) where
@@ -51,17 +51,17 @@ module _ (half : ℕ) (some : 0 < half) where
     long l = length-append l (r ∷ [])
 
     -- one more is recorded and kept
-    pub exact-more : level half some (length rec + 1) ≡ k → Exact k (rec ++ (r ∷ [])) (kept ++ (r ∷ [])) to
-    exact-more top = record {
+    pub exact_more : level half some (length rec + 1) ≡ k → Exact k (rec ++ (r ∷ [])) (kept ++ (r ∷ [])) to
+    exact_more top = record {
       there = λ i h.
           ⊎_elim (λ (l : i < length kept). rw (old i l) (E.there i l))
-          (λ (l : length kept ≤ i). let e : i ≡ length kept = omega (arith, long kept) in rw (e, new, top, last-slot k (length kept)) (omega arith))
+          (λ (l : length kept ≤ i). let e : i ≡ length kept = omega (arith, long kept) in rw (e, new, top, last_slot k (length kept)) (omega arith))
           (below_or i (length kept));
       all = λ i x h e.
           ⊎_elim (λ (l : x < length rec). let f = E.all i x l e in (omega (arith, f.0, long kept), old i f.0 ∙ f.1))
           (λ (l : length rec ≤ x).
           let s : x ≡ length rec = omega (arith, long rec) in
-          let f : length rec ≡ k * half + i = sym s ∙ e ∙ ap (λ (m : ℕ). slot k (level half some (m + 1)) i) s ∙ ap (λ (m : ℕ). slot k m i) top ∙ last-slot k i in
+          let f : length rec ≡ k * half + i = sym s ∙ e ∙ ap (λ (m : ℕ). slot k (level half some (m + 1)) i) s ∙ ap (λ (m : ℕ). slot k m i) top ∙ last_slot k i in
           let is : i ≡ length kept = omega arith in
           (omega (arith, long kept), ap to is ∙ new ∙ sym s))
           (below_or x (length rec));
@@ -73,11 +73,11 @@ module _ (half : ℕ) (some : 0 < half) where
       less = length-evens (kept ++ (r ∷ [])) ∙ omega (arith, long kept)
 
       below : (x : ℕ) → x < length rec → level half some (x + 1) ≤ k
-      below x h = omega (arith, low, level-mono half some (x + 1) (length rec) (omega arith))
+      below x h = omega (arith, low, level_mono half some (x + 1) (length rec) (omega arith))
 
       -- the newest is kept pair `half`
-      newest-slot : slot (k + 1) (k + 1) half ≡ length rec
-      newest-slot = last-slot (k + 1) half ∙ omega (arith, add-mul k 1 half, one-mul half)
+      newest_slot : slot (k + 1) (k + 1) half ≡ length rec
+      newest_slot = last_slot (k + 1) half ∙ omega (arith, add-mul k 1 half, one-mul half)
 
       pub exact-halved : Exact (k + 1) (rec ++ (r ∷ [])) (evens (kept ++ (r ∷ []))) (λ i. to (i + i))
       exact-halved = record {
@@ -86,21 +86,21 @@ module _ (half : ℕ) (some : 0 < half) where
             (λ (l : i < half).
             let b : i + i < length kept = omega arith in
             let o = old (i + i) b in
-            rw o (E.there (i + i) b ∙ sym (next-slot k (level half some (at (i + i) + 1)) i (below (at (i + i)) (within (i + i) b)))))
+            rw o (E.there (i + i) b ∙ sym (next_slot k (level half some (at (i + i) + 1)) i (below (at (i + i)) (within (i + i) b)))))
             (λ (l : half ≤ i).
             let e : i ≡ half = omega (arith, less) in
             let is : i + i ≡ length kept = omega arith in
             let n : to (i + i) ≡ length rec = ap to is ∙ new in
-            n ∙ sym (ap (λ (m : ℕ). slot (k + 1) (level half some (m + 1)) i) n ∙ ap (λ (m : ℕ). slot (k + 1) m i) top ∙ ap (slot (k + 1) (k + 1)) e ∙ newest-slot))
+            n ∙ sym (ap (λ (m : ℕ). slot (k + 1) (level half some (m + 1)) i) n ∙ ap (λ (m : ℕ). slot (k + 1) m i) top ∙ ap (slot (k + 1) (k + 1)) e ∙ newest_slot))
             (below_or i half);
         all = λ i x h e.
             ⊎_elim
             (λ (l : x < length rec).
-            let f = E.all (i + i) x l (e ∙ next-slot k (level half some (x + 1)) i (below x l)) in
+            let f = E.all (i + i) x l (e ∙ next_slot k (level half some (x + 1)) i (below x l)) in
             (omega (arith, f.0, less), old (i + i) f.0 ∙ f.1))
             (λ (l : length rec ≤ x).
             let s : x ≡ length rec = omega (arith, long rec) in
-            let f : length rec ≡ (k + 1) * half + i = sym s ∙ e ∙ ap (λ (m : ℕ). slot (k + 1) (level half some (m + 1)) i) s ∙ ap (λ (m : ℕ). slot (k + 1) m i) top ∙ last-slot (k + 1) i in
+            let f : length rec ≡ (k + 1) * half + i = sym s ∙ e ∙ ap (λ (m : ℕ). slot (k + 1) (level half some (m + 1)) i) s ∙ ap (λ (m : ℕ). slot (k + 1) m i) top ∙ last_slot (k + 1) i in
             let is : i + i ≡ length kept = omega (arith, add-mul k 1 half, one-mul half) in
             (omega (arith, less), ap to is ∙ new ∙ sym s))
             (below_or x (length rec));
@@ -118,8 +118,8 @@ module _ (half : ℕ) (some : 0 < half) where
       let p = 2 ^ m in
       let there = E.there i b in
       let one : 1 * p ≤ i * p = mul-le-mul_right p h in
-      let upto = level-upto half some x in
-      let low : l ≤ k = omega (arith, top, level-mono half some (x + 1) (length rec) (omega arith)) in
+      let upto = level_upto half some x in
+      let low : l ≤ k = omega (arith, top, level_mono half some (x + 1) (length rec) (omega arith)) in
       let split : k * half ≡ m * half + l * half = ap (λ (n : ℕ). n * half) (sum low) ∙ add-mul m l half in
       ⊎_elim
       (λ (less : m < j).
@@ -159,16 +159,16 @@ module _ (half : ℕ) (some : 0 < half) where
     least = one-le-pow (k - l) 2 (omega arith)
 
     reach : l * half ≤ y
-    reach = ⊎_elim (λ (h : 0 < l). omega (arith, level-from half some y h)) (λ (h : l ≤ 0). omega (arith, mul-le-mul_right half h)) (below_or 0 l)
+    reach = ⊎_elim (λ (h : 0 < l). omega (arith, level_from half some y h)) (λ (h : l ≤ 0). omega (arith, mul-le-mul_right half h)) (below_or 0 l)
 
     same : level half some (z + 1) ≡ l
     same =
-        let down = level-mono half some (z + 1) (y + 1) (omega (arith, div-mul-le_self (y - l * half) size, reach)) in
+        let down = level_mono half some (z + 1) (y + 1) (omega (arith, div-mul-le_self (y - l * half) size, reach)) in
         ⊎_elim
         (λ (h : 0 < l).
-        let far = level-from half some y h in
+        let far = level_from half some y h in
         let many = (le-div_iff_mul-le {k = size} {x = q} {y = y - l * half} least).1 (omega (arith, divides)) in
-        omega (arith, down, level-least half some z l h (omega (arith, divides, mul-le-mul_right size many))))
+        omega (arith, down, level_least half some z l h (omega (arith, divides, mul-le-mul_right size many))))
         (λ (h : l ≤ 0). omega (arith, down))
         (below_or 0 l)
 

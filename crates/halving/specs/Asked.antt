@@ -26,9 +26,9 @@ module _ {K : Type 0} (lt : K → K → Bool) (d : K) (key : TrackedSeq → K) w
   -- a lookup of any key x, which answers the value beside the key
   pub record Answers {A : Type 0} (value : TrackedSeq → A) (h : History) (p : Places h.recorded h.kept) (x : K) (find : FindOption → Told (Partner A)) : Type 0 where
     -- it answers from the kept pairs
-    pub from-kept : (opt : FindOption) → find opt ≡ gave (standing (λ i. value (pair_at h.kept i)) (length h.kept) (named opt h.kept x))
+    pub from_kept : (opt : FindOption) → find opt ≡ gave (standing (λ i. value (pair_at h.kept i)) (length h.kept) (named opt h.kept x))
     -- it answers nothing exactly where it would answer nothing from all
-    pub nothing-alike : (opt : FindOption) → (named opt h.kept x ≡ length h.kept) ↔ (named opt h.recorded x ≡ length h.recorded)
+    pub nothing_alike : (opt : FindOption) → (named opt h.kept x ≡ length h.kept) ↔ (named opt h.recorded x ≡ length h.recorded)
     -- else the pair that answers is close to the one that would
     pub close : (opt : FindOption) → named opt h.recorded x < length h.recorded
         → (named opt h.kept x < length h.kept) × CloseBy opt h (p.at (named opt h.kept x)) (named opt h.recorded x)
@@ -36,7 +36,7 @@ module _ {K : Type 0} (lt : K → K → Bool) (d : K) (key : TrackedSeq → K) w
     pub close_down : (j q : ℕ) → named RoundDown h.recorded x < length h.recorded → h.capacity / 2 ≡ q * 2 ^ j → back h (named RoundDown h.recorded x) ≤ j * (h.capacity / 2)
         → named RoundDown h.recorded x < p.at (named RoundDown h.kept x) + 2 ^ j
     -- and whatever divides it, where the 2^j - 1 recorded before it lie so far back, too
-    pub close-down-any : (j : ℕ) → named RoundDown h.recorded x < length h.recorded → back h (named RoundDown h.recorded x) + 2 ^ j ≤ j * (h.capacity / 2) + 1
+    pub close_down_any : (j : ℕ) → named RoundDown h.recorded x < length h.recorded → back h (named RoundDown h.recorded x) + 2 ^ j ≤ j * (h.capacity / 2) + 1
         → named RoundDown h.recorded x < p.at (named RoundDown h.kept x) + 2 ^ j
 
 -- the corollary: the key of each recorded pair y is answered, rounding down or up, by a kept pair i that stands fewer than 2^k recorded pairs from z, a recorded pair of the same key

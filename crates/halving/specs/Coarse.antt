@@ -31,12 +31,12 @@ pub record Coarse (h : History) : Type 0 where
 -- ---- how many halvings, and how far back
 
 -- so many halvings have r recorded pairs made at this capacity: none up to the capacity, then one, and one more with each half of the capacity after that
-abbrev pub halvingsAt : ℕ → ℕ → ℕ
-halvingsAt capacity r = cond (leb r capacity) 0 (1 + (r - capacity - 1) / (capacity / 2))
+abbrev pub halvings_at : ℕ → ℕ → ℕ
+halvings_at capacity r = cond (leb r capacity) 0 (1 + (r - capacity - 1) / (capacity / 2))
 
 -- so many had been made when recorded pair x was recorded, its own among them
-abbrev pub madeBy : History → ℕ → ℕ
-madeBy h x = halvingsAt h.capacity (x + 1)
+abbrev pub made_by : History → ℕ → ℕ
+made_by h x = halvings_at h.capacity (x + 1)
 
 -- so many recorded pairs back lies recorded pair x: as many as were recorded after it
 abbrev pub back : History → ℕ → ℕ
@@ -47,13 +47,13 @@ pub record Halved (h : History) : Type 0 where
   pub coarse : Coarse h
   -- which pairs are kept is had from their places alone: kept pair i is recorded pair x exactly where x is half the capacity for each halving made by then, and i times 2^(the halvings since)
   pub exactly : (i x : ℕ)
-      → ((i < length h.kept) × (coarse.places.at i ≡ x)) ↔ ((x < length h.recorded) × (x ≡ madeBy h x * (h.capacity / 2) + i * 2 ^ (h.halvings - madeBy h x)))
+      → ((i < length h.kept) × (coarse.places.at i ≡ x)) ↔ ((x < length h.recorded) × (x ≡ made_by h x * (h.capacity / 2) + i * 2 ^ (h.halvings - made_by h x)))
   -- the number of halvings is had from that of the recorded pairs
-  pub how-many : h.halvings ≡ halvingsAt h.capacity (length h.recorded)
+  pub how_many : h.halvings ≡ halvings_at h.capacity (length h.recorded)
   -- each has dropped half the capacity
   pub dropped : length h.recorded ≡ length h.kept + h.halvings * (h.capacity / 2)
   -- two neighbours of which the older lies at most j times half the capacity back stand at most 2^j recorded pairs apart
-  pub by-age : (i j : ℕ) → i + 1 < length h.kept → back h (coarse.places.at i) ≤ j * (h.capacity / 2) → apart coarse.places i ≤ 2 ^ j
+  pub by_age : (i j : ℕ) → i + 1 < length h.kept → back h (coarse.places.at i) ≤ j * (h.capacity / 2) → apart coarse.places i ≤ 2 ^ j
   -- how far back it reaches at all: each kept pair but the first lies fewer than j times half the capacity back, where the capacity is at most 2^j
   pub reaches : (i j : ℕ) → 0 < i → i < length h.kept → h.capacity ≤ 2 ^ j → back h (coarse.places.at i) < j * (h.capacity / 2)
 

@@ -3,7 +3,7 @@ use Rattle.std.specs.Prelude.{ℕ, ◌*◌, ◌≤◌, ◌≡◌, Bool, List, []
 use Rattle.signed.specs.Signed.{pattern}
 use Rattle.bit_lists.specs.BitList.{bits_of}
 use Rattle.gorilla.specs.Parser.{Read, read, refused}
-use Rattle.gorilla.specs.Reading.{Pairs, leCount, readArrays, readImage}
+use Rattle.gorilla.specs.Reading.{Pairs, le_count, read_arrays, read_image}
 use Rattle.code_reader.specs.Refusal.{told}
 use Rattle.array_reader.specs.Inner.{array_at, passed_at, Agrees}
 use Rattle.image_reader.specs.declared.image.Parts.{Parts}
@@ -11,12 +11,12 @@ use Rattle.image_reader.specs.declared.image.ImageScan.{ImageScan}
 use Rattle.image_reader.specs.declared.image.ImageScan.TheVariants as m
 
 -- the pairs whose parts stand in the bytes xs
-abbrev pub pairsAt : List ℕ → Parts → Pairs
-pairsAt xs p = record { seqs = map pattern (array_at xs 0 p.count p.seq_first p.seq_at); secs = array_at xs 1 p.count p.sec_first p.sec_at }
+abbrev pub pairs_at : List ℕ → Parts → Pairs
+pairs_at xs p = record { seqs = map pattern (array_at xs 0 p.count p.seq_first p.seq_at); secs = array_at xs 1 p.count p.sec_first p.sec_at }
 
-abbrev pub toldImage : List ℕ → ImageScan → Read Pairs
-toldImage xs (m.Found p) = read (pairsAt xs p) (drop (p.end * 8) (bits_of xs))
-toldImage xs (m.Refused r) = refused (told r)
+abbrev pub told_image : List ℕ → ImageScan → Read Pairs
+told_image xs (m.Found p) = read (pairs_at xs p) (drop (p.end * 8) (bits_of xs))
+told_image xs (m.Refused r) = refused (told r)
 
 -- what was found is there to be filled in
 abbrev pub PassedImage : List ℕ → ℕ → ImageScan → Type 0
@@ -25,12 +25,12 @@ PassedImage xs max (m.Refused r) = Unit {0}
 
 -- n is the count in the header of the bytes xs
 abbrev pub HeaderCount : List ℕ → ℕ → Type 0
-HeaderCount xs n = leCount (3 ∷ []) (drop 8 (bits_of xs)) ≡ read n (drop 40 (bits_of xs))
+HeaderCount xs n = le_count (3 ∷ []) (drop 8 (bits_of xs)) ≡ read n (drop 40 (bits_of xs))
 
 -- both arrays after the header, of at most max values and of the count n that it says
 abbrev pub ReadsArrays : List ℕ → ℕ → ℕ → ImageScan → Type 0
-ReadsArrays xs max n r = ((room : ℕ → Bool) → Agrees max room → toldImage xs r ≡ readArrays (length xs * 8) room n (drop 40 (bits_of xs))) × PassedImage xs max r
+ReadsArrays xs max n r = ((room : ℕ → Bool) → Agrees max room → told_image xs r ≡ read_arrays (length xs * 8) room n (drop 40 (bits_of xs))) × PassedImage xs max r
 
 -- an image of at most max pairs
 abbrev pub ReadsImage : List ℕ → ℕ → ImageScan → Type 0
-ReadsImage xs max r = ((room : ℕ → Bool) → Agrees max room → toldImage xs r ≡ readImage room xs) × PassedImage xs max r
+ReadsImage xs max r = ((room : ℕ → Bool) → Agrees max room → told_image xs r ≡ read_image room xs) × PassedImage xs max r

@@ -9,27 +9,27 @@ use lib.Seq.{sets, sets-eq}
 use lib.IntN.{ℤ}
 use Rattle.told.specs.Over.{over}
 use Rattle.signed.specs.Signed.{signed}
-use Rattle.gorilla.specs.Format.{arrayBytes, le_bytes, imageBytes}
+use Rattle.gorilla.specs.Format.{array_bytes, le_bytes, image_bytes}
 
 -- bytes written one after the other
-sets-append : (s : List ℕ) (i : ℕ) (a b : List ℕ) → sets s i (a ++ b) ≡ sets (sets s i a) (i + length a) b
-sets-append s i [] b = ap (λ (k : ℕ). sets s k b) (sym (add-zero i))
-sets-append s i (x ∷ a) b =
+sets_append : (s : List ℕ) (i : ℕ) (a b : List ℕ) → sets s i (a ++ b) ≡ sets (sets s i a) (i + length a) b
+sets_append s i [] b = ap (λ (k : ℕ). sets s k b) (sym (add-zero i))
+sets_append s i (x ∷ a) b =
     let e : suc i + length a ≡ i + suc (length a) = omega arith in
-    sets-append (set s i x) (suc i) a b ∙ ap (λ (k : ℕ). sets (sets (set s i x) (suc i) a) k b) e
+    sets_append (set s i x) (suc i) a b ∙ ap (λ (k : ℕ). sets (sets (set s i x) (suc i) a) k b) e
 
 sets_over : (l s : List ℕ) → length l ≤ length s → sets s 0 l ≡ over l s
 sets_over l s h = sets-eq l s 0 (omega arith) ∙ ap (λ (k : ℕ). l ++ drop k s) (zero-add (length l))
 
 -- the header, the sequences, the seconds
-pub image-put : (seqs : List ℕ) (secs : List ℤ) (s u v w : List ℕ) (e : ℕ) → length (imageBytes seqs secs) ≤ length s
-    → u ≡ sets s 0 (1 ∷ le_bytes 4 (length seqs)) → v ≡ sets u 5 (arrayBytes (map signed seqs)) → e ≡ 5 + length (arrayBytes (map signed seqs))
-    → w ≡ sets v e (arrayBytes secs) → w ≡ over (imageBytes seqs secs) s
-unfolding imageBytes le_bytes
-image-put seqs secs s u v w e h f g k j =
+pub image_put : (seqs : List ℕ) (secs : List ℤ) (s u v w : List ℕ) (e : ℕ) → length (image_bytes seqs secs) ≤ length s
+    → u ≡ sets s 0 (1 ∷ le_bytes 4 (length seqs)) → v ≡ sets u 5 (array_bytes (map signed seqs)) → e ≡ 5 + length (array_bytes (map signed seqs))
+    → w ≡ sets v e (array_bytes secs) → w ≡ over (image_bytes seqs secs) s
+unfolding image_bytes le_bytes
+image_put seqs secs s u v w e h f g k j =
     let H : List ℕ = 1 ∷ le_bytes 4 (length seqs) in
-    let A : List ℕ = arrayBytes (map signed seqs) in
-    let B : List ℕ = arrayBytes secs in
+    let A : List ℕ = array_bytes (map signed seqs) in
+    let B : List ℕ = array_bytes secs in
     let l : 5 + length A ≡ 0 + length (H ++ A) = omega (arith, length-append H A) in
-    j ∙ ap₂ (λ (x : List ℕ) (y : ℕ). sets x y B) (g ∙ ap (λ (x : List ℕ). sets x 5 A) f ∙ sym (sets-append s 0 H A)) (k ∙ l)
-    ∙ sym (sets-append s 0 (H ++ A) B) ∙ sets_over (H ++ A ++ B) s h
+    j ∙ ap₂ (λ (x : List ℕ) (y : ℕ). sets x y B) (g ∙ ap (λ (x : List ℕ). sets x 5 A) f ∙ sym (sets_append s 0 H A)) (k ∙ l)
+    ∙ sym (sets_append s 0 (H ++ A) B) ∙ sets_over (H ++ A ++ B) s h

@@ -2,7 +2,7 @@
 ghost use Rattle.std.specs.Prelude.{◌≡◌, ◌∷◌, ◌≤◌, length};
 ghost use Rattle.std.proofs.lemmas.List.Edits.{sets};
 ghost use Rattle.told.specs.Over.{over};
-ghost use Rattle.gorilla.specs.Format.{le_bytes, imageBytes};
+ghost use Rattle.gorilla.specs.Format.{le_bytes, image_bytes};
 
 use array_writer::inner::{write_secs, write_seqs};
 
@@ -20,9 +20,9 @@ fn write_header(out: &mut [u8], count: usize)
 
 // The image, into a buffer that holds it, and its length.
 pub fn write_image(seqs: &[u64], secs: &[i64], out: &mut [u8]) -> usize
-    requires { length (imageBytes seqs.now secs.now) ≤ length out.old }
-    ensures bytes { result ≡ length (imageBytes seqs.now secs.now) }
-    ensures out { out.new ≡ over (imageBytes seqs.now secs.now) out.old }
+    requires { length (image_bytes seqs.now secs.now) ≤ length out.old }
+    ensures bytes { result ≡ length (image_bytes seqs.now secs.now) }
+    ensures out { out.new ≡ over (image_bytes seqs.now secs.now) out.old }
 {
     write_header(out, seqs.len());
     let end = write_seqs(out, 5, seqs);

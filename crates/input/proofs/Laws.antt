@@ -13,7 +13,7 @@ use mir.Val.{Fits, SFits, of_z}
 use borrow.Author.Tests.{ltb-true}
 use borrow.Rule.Slice.PartMut.{mid_of, put_mid, take_put}
 use Rattle.libc.specs.Io.{Moved}
-use Rattle.input.specs.Inner.{ReadingOf, Counted, afterRead, Reads}
+use Rattle.input.specs.Inner.{ReadingOf, Counted, after_read, Reads}
 use Rattle.input.specs.Input.{ReadInto}
 use Rattle.input.specs.declared.once.Reading.{Reading}
 use Rattle.input.specs.declared.once.Over.{Over}
@@ -31,16 +31,16 @@ begun buffer e = rw e (omega arith, refl)
 
 -- ---- a read that answered z
 module _ (at : Reading) where
-  pub fails : (z : ℤ) → lt_z z (pos 0) ≡ true → r.Over (record { bytes = at.bytes; room = at.room; failed = true }) ≡ afterRead at z
+  pub fails : (z : ℤ) → lt_z z (pos 0) ≡ true → r.Over (record { bytes = at.bytes; room = at.room; failed = true }) ≡ after_read at z
   fails (pos n) e = absurd (omega (arith, ltb-true))
   fails (negsuc n) e = refl
 
-  pub ends : (z : ℤ) → lt_z z (pos 0) ≡ false → of_z w64 z ≡ 0 → r.Over (record { bytes = at.bytes; room = at.room; failed = false }) ≡ afterRead at z
+  pub ends : (z : ℤ) → lt_z z (pos 0) ≡ false → of_z w64 z ≡ 0 → r.Over (record { bytes = at.bytes; room = at.room; failed = false }) ≡ after_read at z
   ends (pos zero) e h = refl
   ends (pos (suc n)) e h = absurd (omega (arith, h))
   ends (negsuc n) e h = absurd (subst T e tt)
 
-  pub adds : (z : ℤ) → lt_z z (pos 0) ≡ false → (of_z w64 z ≡ 0 → ⊥) → r.More (record { bytes = at.bytes + nat_abs z; room = at.room }) ≡ afterRead at z
+  pub adds : (z : ℤ) → lt_z z (pos 0) ≡ false → (of_z w64 z ≡ 0 → ⊥) → r.More (record { bytes = at.bytes + nat_abs z; room = at.room }) ≡ after_read at z
   adds (pos zero) e h = absurd (h refl)
   adds (pos (suc n)) e h = refl
   adds (negsuc n) e h = absurd (subst T e tt)
@@ -55,14 +55,14 @@ module _ (at : Reading) where
   counted (pos n) room l h m = omega (arith, l, h, m)
   counted (negsuc n) room l h m = tt
 
-  pub grows : (z : ℤ) (buffer : List ℕ) → ReadingOf at buffer → Moved (length buffer - at.bytes) z → Sized at.bytes buffer (afterRead at z)
+  pub grows : (z : ℤ) (buffer : List ℕ) → ReadingOf at buffer → Moved (length buffer - at.bytes) z → Sized at.bytes buffer (after_read at z)
   grows (pos zero) buffer h m = h
   grows (pos (suc n)) buffer h m = (omega arith, (omega (arith, m, h.0), h.1))
   grows (negsuc n) buffer h m = h
 
 -- ---- a buffer after a read
-pub room-left : (a : ℕ) (xs : List ℕ) → length (mid_of a (length xs - a) xs) ≡ length xs - a
-room-left a xs = omega (arith, length-take (length xs - a) (drop a xs), length-drop a xs)
+pub room_left : (a : ℕ) (xs : List ℕ) → length (mid_of a (length xs - a) xs) ≡ length xs - a
+room_left a xs = omega (arith, length-take (length xs - a) (drop a xs), length-drop a xs)
 
 pub stays : (a : ℕ) (xs ys : List ℕ) → a ≤ length xs → take a (put_mid a (length xs - a) xs ys) ≡ take a xs
 stays a xs ys h = take_put a (length xs - a) xs ys h
@@ -70,8 +70,8 @@ stays a xs ys h = take_put a (length xs - a) xs ys h
 pub sized : {old new : List ℕ} {at : Reading} {answer : Read} → Reads old at new answer → ReadingOf at old → Sized at.bytes old answer
 sized {old} {at = at} h l = rw h.added (grows at h.got old l h.moved)
 
-pub more-sized : (buffer : List ℕ) {answer : Read} {a : Reading} {d : ℕ} → answer ≡ r.More a → Sized d buffer answer → (d < a.bytes) × ReadingOf a buffer
-more-sized buffer {d = d} e h = subst (λ (x : Read). Sized d buffer x) e h
+pub more_sized : (buffer : List ℕ) {answer : Read} {a : Reading} {d : ℕ} → answer ≡ r.More a → Sized d buffer answer → (d < a.bytes) × ReadingOf a buffer
+more_sized buffer {d = d} e h = subst (λ (x : Read). Sized d buffer x) e h
 
 pub over_sized : (buffer : List ℕ) (d : ℕ) {answer : Read} {o : Over} → answer ≡ r.Over o → Sized d buffer answer → ReadInto o buffer
 over_sized buffer d e h = subst (λ (x : Read). Sized d buffer x) e h

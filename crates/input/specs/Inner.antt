@@ -16,14 +16,14 @@ abbrev pub ReadingOf : Reading → List ℕ → Type 0
 ReadingOf at buffer = (at.bytes ≤ length buffer) × (at.room ≡ length buffer)
 
 -- what a read came to: -1 is a failure, 0 the end, and any other number is added to the bytes read before
-abbrev pub afterRead : Reading → ℤ → Read
-afterRead at (negsuc n) = r.Over (record { bytes = at.bytes; room = at.room; failed = true })
-afterRead at (pos zero) = r.Over (record { bytes = at.bytes; room = at.room; failed = false })
-afterRead at (pos (suc n)) = r.More (record { bytes = at.bytes + suc n; room = at.room })
+abbrev pub after_read : Reading → ℤ → Read
+after_read at (negsuc n) = r.Over (record { bytes = at.bytes; room = at.room; failed = true })
+after_read at (pos zero) = r.Over (record { bytes = at.bytes; room = at.room; failed = false })
+after_read at (pos (suc n)) = r.More (record { bytes = at.bytes + suc n; room = at.room })
 
 -- a read into what follows the bytes read before: those bytes stay, and what the read answered is added
 pub record Reads (old : List ℕ) (at : Reading) (new : List ℕ) (answer : Read) : Type 0 where
   pub got : ℤ
   pub moved : Moved (length old - at.bytes) got
   pub kept : take at.bytes new ≡ take at.bytes old
-  pub added : answer ≡ afterRead at got
+  pub added : answer ≡ after_read at got

@@ -1,7 +1,7 @@
 // One read of standard input. Only here are a `Reading` and an `Over` made, since their fields are this module's own: any other code has
 // them from `begin`, and from reads into all of the buffer that follows the bytes read before.
 ghost use Rattle.std.specs.Prelude.{◌≡◌};
-ghost use Rattle.input.specs.Inner.{ReadingOf, Counted, afterRead, Reads};
+ghost use Rattle.input.specs.Inner.{ReadingOf, Counted, after_read, Reads};
 
 // Standard input that is being read into a buffer.
 #[derive(Drop)]
@@ -51,7 +51,7 @@ pub fn begin(room: usize) -> Reading
 // What a read that answered `got` came to.
 fn after(at: Reading, got: isize) -> Read
     requires { Counted at.bytes got }
-    ensures { result ≡ afterRead at got }
+    ensures { result ≡ after_read at got }
 {
     let done = at.bytes;
     if got < 0 {

@@ -10,7 +10,7 @@ use lib.Seq.{ext_get_or, get_or-set_same, get_or-set_other, get_or-drop, get_or-
 use Rattle.told.specs.Over.{over}
 use Rattle.order.proofs.Bools.{below_or}
 use Rattle.keeping.specs.Keep.{evens, appended, thinned}
-use Rattle.keeping.proofs.Thinned.{getD-evens, length-evens, appended-length, appended-old, appended-new, thinned-not, thinned-evens}
+use Rattle.keeping.proofs.Thinned.{get_d_evens, length-evens, appended-length, appended_old, appended-new, thinned_not, thinned-evens}
 
 module _ {A : Type 0} (d : A) where
   -- in l the first j positions hold what stood at the even positions of xs before i, and the others what stood there
@@ -20,11 +20,11 @@ module _ {A : Type 0} (d : A) where
     pub done : (k : ℕ) → k < j → get_or l k d ≡ get_or xs (k + k) d
     pub rest : (k : ℕ) → j ≤ k → get_or l k d ≡ get_or xs k d
 
-  pub halving-start : (xs : List A) → Halving xs xs 0 0
-  halving-start xs = record { same = refl; twice = refl; done = λ k h. absurd (omega arith); rest = λ k h. refl }
+  pub halving_start : (xs : List A) → Halving xs xs 0 0
+  halving_start xs = record { same = refl; twice = refl; done = λ k h. absurd (omega arith); rest = λ k h. refl }
 
-  pub halving-more : (xs l : List A) (j i : ℕ) → j < length l → Halving xs l j i → Halving xs (set l j (get_or l i d)) (j + 1) (i + 2)
-  halving-more xs l j i h H = record {
+  pub halving_more : (xs l : List A) (j i : ℕ) → j < length l → Halving xs l j i → Halving xs (set l j (get_or l i d)) (j + 1) (i + 2)
+  halving_more xs l j i h H = record {
     same = length-set l j (get_or l i d) ∙ H.same;
     twice = omega (arith, H.twice);
     done = λ k p.
@@ -51,7 +51,7 @@ module _ {A : Type 0} (d : A) where
 
     within : (k : ℕ) → k < length halves → get_or (over halves xs) k d ≡ get_or (appended n xs x) (k + k) d
     unfolding halves
-    within k h = get_or-append halves (drop (length halves) xs) d k h ∙ getD-evens d (appended n xs x) k
+    within k h = get_or-append halves (drop (length halves) xs) d k h ∙ get_d_evens d (appended n xs x) k
 
     each : (k : ℕ) → get_or f k d ≡ get_or (over halves xs) k d
     each k =
@@ -59,7 +59,7 @@ module _ {A : Type 0} (d : A) where
         (λ (h : k < length halves).
         let q : k + k ≤ n = omega (arith, halves-length) in
         ⊎_elim (λ (e : k + k ≡ n). new k e ∙ sym (within k h ∙ ap (λ (m : ℕ). get_or (appended n xs x) m d) e ∙ appended-new n xs x fit d))
-        (λ (b : k + k < n). front k b ∙ sym (within k h ∙ appended-old n xs x fit d (k + k) b))
+        (λ (b : k + k < n). front k b ∙ sym (within k h ∙ appended_old n xs x fit d (k + k) b))
         (eq-or-lt_of_le q))
         (λ (h : length halves ≤ k).
         let e : length halves + (k - length halves) ≡ k = omega arith in
@@ -74,8 +74,8 @@ module _ {A : Type 0} (d : A) where
 
   module _ (xs l : List A) (n j i cap : ℕ) (x : A) (fit : n ≤ length xs) (some : 0 < length xs) (full : cap ≤ n) (H : Halving xs l j i) where
     -- the loop ended at the new element, which has an even position
-    pub ended-even : i ≡ n → set l j x ≡ over (thinned cap (appended n xs x)) xs
-    ended-even e =
+    pub ended_even : i ≡ n → set l j x ≡ over (thinned cap (appended n xs x)) xs
+    ended_even e =
         let two = H.twice in
         halved xs (set l j x) n x fit some (length-set l j x ∙ H.same)
         (λ k h. get_or-set_other l j k x d (λ (q : k ≡ j). omega arith) ∙ H.done k (omega arith))
@@ -94,4 +94,4 @@ pub added : {A : Type 0} (xs : List A) (n cap : ℕ) (x : A) → n < cap → n <
 added xs n cap x h fit =
     let some : n ≤ length xs = omega arith in
     let e : length (appended n xs x) ≡ suc n = appended-length n xs x some ∙ omega arith in
-    rw (thinned-not n xs x some cap h, e) (set_split xs n x fit ∙ sym (append_assoc (take n xs) (x ∷ []) (drop (suc n) xs)))
+    rw (thinned_not n xs x some cap h, e) (set_split xs n x fit ∙ sym (append_assoc (take n xs) (x ∷ []) (drop (suc n) xs)))

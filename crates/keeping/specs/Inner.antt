@@ -2,5 +2,5 @@
 use Rattle.std.specs.Prelude.{ℕ, ◌+◌, ◌/◌, cond, ltb}
 
 -- how many elements stay of n and one more
-abbrev pub countWith : ℕ → ℕ → ℕ
-countWith capacity n = cond (ltb n capacity) (n + 1) (n / 2 + 1)
+abbrev pub count_with : ℕ → ℕ → ℕ
+count_with capacity n = cond (ltb n capacity) (n + 1) (n / 2 + 1)

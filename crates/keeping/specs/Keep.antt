@@ -17,5 +17,5 @@ abbrev pub thinned : {A : Type 0} → ℕ → List A → List A
 thinned capacity l = cond (ltb capacity (length l)) (evens l) l
 
 -- what the table keeps once x is recorded
-abbrev pub keptWith : {A : Type 0} → SequenceTracker → List A → A → List A
-keptWith table xs x = thinned table.capacity (appended table.count xs x)
+abbrev pub kept_with : {A : Type 0} → SequenceTracker → List A → A → List A
+kept_with table xs x = thinned table.capacity (appended table.count xs x)

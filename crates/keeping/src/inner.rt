@@ -3,7 +3,7 @@
 ghost use Rattle.std.specs.Prelude.{◌≡◌, ◌≤◌, ◌<◌, length};
 ghost use Rattle.told.specs.Over.{over};
 ghost use Rattle.keeping.specs.Keep.{appended, thinned};
-ghost use Rattle.keeping.specs.Inner.{countWith};
+ghost use Rattle.keeping.specs.Inner.{count_with};
 
 // The positions that stay, counted from 0: the first, then every second one.
 const FIRST_KEPT: usize = 0;
@@ -14,7 +14,7 @@ const STEP: usize = 2;
 // come first, and whether there is room for one more has been tested here.
 pub fn seq_keep(seqs: &mut [u64], n: usize, capacity: usize, q: u64) -> usize
     requires { (n ≤ length seqs.old) × (capacity ≤ length seqs.old) × (0 < length seqs.old) }
-    ensures count { result ≡ countWith capacity n }
+    ensures count { result ≡ count_with capacity n }
     ensures seqs { seqs.new ≡ over (thinned capacity (appended n seqs.old q)) seqs.old }
 {
     if n < capacity {

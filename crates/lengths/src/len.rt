@@ -1,7 +1,7 @@
 // The bits of a code, of an array, and the bytes of the image.
 ghost use Rattle.std.specs.Prelude.{◌≡◌, map, ◌≤◌, length};
 ghost use Rattle.signed.specs.Signed.{signed};
-ghost use Rattle.gorilla.specs.Format.{codeBits, arrayBits, imageBytes};
+ghost use Rattle.gorilla.specs.Format.{code_bits, array_bits, image_bytes};
 
 use code_writer::inner::{RUN, even_secs, even_seqs};
 use gorilla::Track;
@@ -9,7 +9,7 @@ use gorilla::inner::{advance, row_of};
 
 // The bits of a code.
 fn code_len(dod: i64) -> usize
-    ensures { result ≡ length (codeBits dod) }
+    ensures { result ≡ length (code_bits dod) }
 {
     let row = row_of(dod);
     (row.prefix_bits + row.width) as usize
@@ -18,7 +18,7 @@ fn code_len(dod: i64) -> usize
 // The bits of the sequences' array. A zero code is counted without a look at the rows, and after it a run of them at once.
 fn seqs_bits(seqs: &[u64]) -> usize
     requires { length seqs.now ≤ 65536 }
-    ensures { result ≡ length (arrayBits (map signed seqs.now)) }
+    ensures { result ≡ length (array_bits (map signed seqs.now)) }
 {
     if seqs.len() == 0 {
         return 32;
@@ -51,7 +51,7 @@ fn seqs_bits(seqs: &[u64]) -> usize
 // The bits of the seconds' array, likewise.
 fn secs_bits(secs: &[i64]) -> usize
     requires { length secs.now ≤ 65536 }
-    ensures { result ≡ length (arrayBits secs.now) }
+    ensures { result ≡ length (array_bits secs.now) }
 {
     if secs.len() == 0 {
         return 32;
@@ -85,7 +85,7 @@ fn secs_bits(secs: &[i64]) -> usize
 // The bytes of the image.
 pub fn image_bytes(seqs: &[u64], secs: &[i64]) -> usize
     requires { (length seqs.now ≤ 65536) × (length secs.now ≤ 65536) }
-    ensures { result ≡ length (imageBytes seqs.now secs.now) }
+    ensures { result ≡ length (image_bytes seqs.now secs.now) }
 {
     5 + (seqs_bits(seqs) + 7) / 8 + (secs_bits(secs) + 7) / 8
 }

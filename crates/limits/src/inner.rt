@@ -1,7 +1,7 @@
 // The limits that the rules set (docs/RULES.md): the domain of seconds, the settings and the room that they need.
 ghost use Rattle.std.specs.Prelude.{◌≡◌};
 ghost use Rattle.limits.specs.Domain.{outside};
-ghost use Rattle.limits.specs.Settings.{badSettings, roomOf};
+ghost use Rattle.limits.specs.Settings.{bad_settings, room_of};
 
 const MAX_CAPACITY: u32 = 8192;
 
@@ -22,7 +22,7 @@ pub fn out_of_domain(s: i64) -> bool
 }
 
 pub fn bad_settings(capacity: u32, interval_secs: u64) -> bool
-    ensures { result ≡ badSettings capacity interval_secs }
+    ensures { result ≡ bad_settings capacity interval_secs }
 {
     if capacity > MAX_CAPACITY {
         return true;
@@ -32,7 +32,7 @@ pub fn bad_settings(capacity: u32, interval_secs: u64) -> bool
 
 // The room that the arrays of a table need: a capacity of 0 keeps one pair.
 pub fn room(capacity: u32) -> usize
-    ensures { result ≡ roomOf capacity }
+    ensures { result ≡ room_of capacity }
 {
     if capacity == 0 { 1 } else { capacity as usize }
 }

@@ -4,7 +4,7 @@ ghost use Rattle.std.specs.Prelude.{◌≤◌, length, take};
 ghost use Rattle.report.specs.Dated.{DatedListing};
 ghost use Rattle.running.specs.Run.{Ran};
 ghost use Rattle.listing_io.specs.Run.{Listing};
-ghost use Rattle.listing_io.specs.Inner.{printsBy, Lists};
+ghost use Rattle.listing_io.specs.Inner.{prints_by, Lists};
 
 use input::Over;
 use report::TEXT_ROOM;
@@ -33,7 +33,7 @@ fn run_as(
     unread: &[u8],
     unwritten: &[u8],
 ) -> Over
-    ensures { Ran (printsBy dates) result image.new text.old text.new }
+    ensures { Ran (prints_by dates) result image.new text.old text.new }
 {
     let over = input::read_all(image);
     if input::failed(over) {

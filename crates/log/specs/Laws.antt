@@ -3,10 +3,10 @@ use Rattle.std.specs.Prelude.{ℕ, ◌+◌, ◌<◌, ◌≡◌, ◌⊎◌, List,
 use Rattle.told.specs.Told.{Told, gave, refused}
 use Rattle.tracker.specs.declared.TrackedSeq.{TrackedSeq}
 use Rattle.totals.specs.Totals.{sum_of, most}
-use Rattle.offers.specs.Whole.{Table, checkIn}
+use Rattle.offers.specs.Whole.{Table, check_in}
 use Rattle.tallies.specs.Tally.{total}
-use Rattle.log.specs.Log.{Log, done, stopped, logOf}
-use Rattle.log.specs.Pairs.{pairsLogOf, extendOf}
+use Rattle.log.specs.Log.{Log, done, stopped, log_of}
+use Rattle.log.specs.Pairs.{pairs_log_of, extend_of}
 
 -- 16 or 17; 17 alone, of records whose seconds are in the domain, as those of a good table are
 abbrev pub ByAny : ℕ → Type 0
@@ -27,14 +27,14 @@ AddsUp By m (refused what) = ⊥
 
 -- to a good table: of a list of records, of two lists of one length, and of the pairs that another good table keeps
 abbrev pub TalliesAddUp : Type 0
-TalliesAddUp = (w : Table) → checkIn w ≡ gave tt
-    → ((rs : List TrackedSeq) → AddsUp (Refuses w ByAny) (length rs) (logOf w rs).answer)
-    × ((qs : List ℕ) (ss : List ℤ) → length qs ≡ length ss → AddsUp (Refuses w ByAny) (length qs) (pairsLogOf w qs ss).answer)
-    × ((other : Table) → checkIn other ≡ gave tt → AddsUp (Refuses w ByDrop) other.state.count (extendOf w other).answer)
+TalliesAddUp = (w : Table) → check_in w ≡ gave tt
+    → ((rs : List TrackedSeq) → AddsUp (Refuses w ByAny) (length rs) (log_of w rs).answer)
+    × ((qs : List ℕ) (ss : List ℤ) → length qs ≡ length ss → AddsUp (Refuses w ByAny) (length qs) (pairs_log_of w qs ss).answer)
+    × ((other : Table) → check_in other ≡ gave tt → AddsUp (Refuses w ByDrop) other.state.count (extend_of w other).answer)
 
 -- a good table is good after a list of offers, whatever came of it
 abbrev pub GoodAfter : Type 0
-GoodAfter = (w : Table) → checkIn w ≡ gave tt
-    → ((rs : List TrackedSeq) → checkIn (logOf w rs).table ≡ gave tt)
-    × ((qs : List ℕ) (ss : List ℤ) → checkIn (pairsLogOf w qs ss).table ≡ gave tt)
-    × ((other : Table) → checkIn (extendOf w other).table ≡ gave tt)
+GoodAfter = (w : Table) → check_in w ≡ gave tt
+    → ((rs : List TrackedSeq) → check_in (log_of w rs).table ≡ gave tt)
+    × ((qs : List ℕ) (ss : List ℤ) → check_in (pairs_log_of w qs ss).table ≡ gave tt)
+    × ((other : Table) → check_in (extend_of w other).table ≡ gave tt)

@@ -4,9 +4,9 @@ use Rattle.told.specs.Told.{Told, gave, refused}
 use Rattle.tracker.specs.Refusal.{told}
 use Rattle.tracker.specs.declared.TrackedSeq.{TrackedSeq}
 use Rattle.tracker.specs.declared.SequenceTracker.{SequenceTracker}
-use Rattle.offers.specs.Whole.{Table, checkIn, Left, leaving}
-use Rattle.offers.specs.Offer.{Outcome, recorded, wentBack, tooSoon, pairRefused, offerTo, offeredTo}
-use Rattle.tallies.specs.Tally.{noneYet, counted}
+use Rattle.offers.specs.Whole.{Table, check_in, Left, leaving}
+use Rattle.offers.specs.Offer.{Outcome, recorded, went_back, too_soon, pair_refused, offer_to, offered_to}
+use Rattle.tallies.specs.Tally.{none_yet, counted}
 use Rattle.tallies.specs.declared.Tally.{Tally}
 use Rattle.log.specs.declared.Logged.{Logged}
 use Rattle.log.specs.declared.Logged.TheVariants.{Done, Stopped, Refused, OwnRefused, OtherRefused, LengthsDiffer}
@@ -19,13 +19,13 @@ pub data Log : Type 0 where
 
 -- what a log tells: a bad table has no position; of two tables it tells, last, which was bad, 0 the own and 1 the other; two lists of
 -- different length are 18
-abbrev pub toldLog : Logged → Told Log
-toldLog (Done table n) = gave (done table n)
-toldLog (Stopped at why table n) = gave (stopped (told why ++ (at ∷ [])) table n)
-toldLog (Refused why) = refused (told why)
-toldLog (OwnRefused why) = refused (told why ++ (0 ∷ []))
-toldLog (OtherRefused why) = refused (told why ++ (1 ∷ []))
-toldLog LengthsDiffer = refused (18 ∷ [])
+abbrev pub told_log : Logged → Told Log
+told_log (Done table n) = gave (done table n)
+told_log (Stopped at why table n) = gave (stopped (told why ++ (at ∷ [])) table n)
+told_log (Refused why) = refused (told why)
+told_log (OwnRefused why) = refused (told why ++ (0 ∷ []))
+told_log (OtherRefused why) = refused (told why ++ (1 ∷ []))
+told_log LengthsDiffer = refused (18 ∷ [])
 
 -- what is left of a refusal, else what follows
 abbrev pub unless : {A B : Type 0} → Told A → (List ℕ → B) → B → B
@@ -33,22 +33,22 @@ unless (gave _) stop next = next
 unless (refused what) stop next = stop what
 
 -- the same of an offer, whether its refusal was counted (16, 17) or not (31)
-abbrev pub unlessStopped : {B : Type 0} → Told Outcome → (List ℕ → B) → B → B
-unlessStopped (gave (recorded t)) stop next = next
-unlessStopped (gave (wentBack t)) stop next = next
-unlessStopped (gave (tooSoon t)) stop next = next
-unlessStopped (gave (pairRefused what t)) stop next = stop what
-unlessStopped (refused what) stop next = stop what
+abbrev pub unless_stopped : {B : Type 0} → Told Outcome → (List ℕ → B) → B → B
+unless_stopped (gave (recorded t)) stop next = next
+unless_stopped (gave (went_back t)) stop next = next
+unless_stopped (gave (too_soon t)) stop next = next
+unless_stopped (gave (pair_refused what t)) stop next = stop what
+unless_stopped (refused what) stop next = stop what
 
 -- the records from position i on, in order, up to the first refusal; the state is the one that the last offer left, be that the refused one
 unfoldable pub run_of : Table → Tally → ℕ → List TrackedSeq → Left (Told Log)
 run_of w n i [] = leaving (gave (done w.state n)) w
 run_of w n i (r ∷ rs) =
-    let told = offerTo w r.seq r.ts in
-    let after = offeredTo w r.seq r.ts told in
-    unlessStopped told (λ what. leaving (gave (stopped (what ++ (i ∷ [])) after.state n)) after)
+    let told = offer_to w r.seq r.ts in
+    let after = offered_to w r.seq r.ts told in
+    unless_stopped told (λ what. leaving (gave (stopped (what ++ (i ∷ [])) after.state n)) after)
     (run_of after (counted told n) (i + 1) rs)
 
 -- a log of offers to a table: a bad one refuses before the first record, and is as before
-abbrev pub logOf : Table → List TrackedSeq → Left (Told Log)
-logOf w records = unless (checkIn w) (λ what. leaving (refused what) w) (run_of w noneYet 0 records)
+abbrev pub log_of : Table → List TrackedSeq → Left (Told Log)
+log_of w records = unless (check_in w) (λ what. leaving (refused what) w) (run_of w none_yet 0 records)

@@ -4,7 +4,7 @@ use Rattle.tracker.specs.Rest.{rest_of}
 use Rattle.log.specs.Log.{Log, done, stopped}
 
 -- all of it but the totals: with these at zero in the state
-abbrev pub logRest : Told Log → Told Log
-logRest (gave (done t n)) = gave (done (rest_of t) n)
-logRest (gave (stopped what t n)) = gave (stopped what (rest_of t) n)
-logRest (refused what) = refused what
+abbrev pub log_rest : Told Log → Told Log
+log_rest (gave (done t n)) = gave (done (rest_of t) n)
+log_rest (gave (stopped what t n)) = gave (stopped what (rest_of t) n)
+log_rest (refused what) = refused what

@@ -1,10 +1,10 @@
 // A log record by record, for our own crates: one step, the answer. Every list of offers goes by these.
 ghost use Rattle.std.specs.Prelude.{◌≡◌, ◌+◌, ◌<◌, ◌^◌};
 ghost use Rattle.told.specs.Told.{gave};
-ghost use Rattle.tracker.specs.Table.{checkOf};
+ghost use Rattle.tracker.specs.Table.{check_of};
 ghost use Rattle.tallies.specs.Tally.{total};
-ghost use Rattle.log.specs.Log.{toldLog};
-ghost use Rattle.log.specs.Inner.{toldProgress, goingOf, stoppedOf, Steps};
+ghost use Rattle.log.specs.Log.{told_log};
+ghost use Rattle.log.specs.Inner.{told_progress, going_of, stopped_of, Steps};
 
 use crate::Logged;
 use offers::inner as offer;
@@ -31,7 +31,7 @@ pub struct Progress {
 
 // A log that goes on, after so many records.
 pub fn going(table: SequenceTracker, tally: Tally, end: usize) -> Progress
-    ensures { result ≡ goingOf table tally end }
+    ensures { result ≡ going_of table tally end }
 {
     Progress {
         table: table,
@@ -44,7 +44,7 @@ pub fn going(table: SequenceTracker, tally: Tally, end: usize) -> Progress
 // A log that a record has stopped. Those before it were counted, so their number is its position.
 fn stopped(table: SequenceTracker, tally: Tally, why: Refusal) -> Progress
     requires { total tally < 2 ^ 64 }
-    ensures { result ≡ stoppedOf table tally why }
+    ensures { result ≡ stopped_of table tally why }
 {
     let at = total(tally);
     Progress {
@@ -57,7 +57,7 @@ fn stopped(table: SequenceTracker, tally: Tally, why: Refusal) -> Progress
 
 // One record.
 pub fn step(seqs: &mut [u64], secs: &mut [i64], p: Progress, pair: TrackedSeq) -> Progress
-    requires { (checkOf p.table seqs.old secs.old ≡ gave tt) × (total p.tally + 1 < 2 ^ 64) }
+    requires { (check_of p.table seqs.old secs.old ≡ gave tt) × (total p.tally + 1 < 2 ^ 64) }
     ensures { Steps p seqs.old secs.old pair result seqs.new secs.new }
 {
     let own = p.table;
@@ -76,7 +76,7 @@ pub fn step(seqs: &mut [u64], secs: &mut [i64], p: Progress, pair: TrackedSeq) -
 
 // The answer.
 pub fn finish(p: Progress) -> Logged
-    ensures { toldLog result ≡ toldProgress p }
+    ensures { told_log result ≡ told_progress p }
 {
     let table = p.table;
     let tally = p.tally;

@@ -1,7 +1,7 @@
 // Logs of offers whose records stand in two lists: the lists of a caller, or the pairs that another table keeps.
 ghost use Rattle.offers.specs.Whole.{whole, Leaves};
-ghost use Rattle.log.specs.Log.{toldLog};
-ghost use Rattle.log.specs.Pairs.{pairsLogOf, extendOf};
+ghost use Rattle.log.specs.Log.{told_log};
+ghost use Rattle.log.specs.Pairs.{pairs_log_of, extend_of};
 
 use log::Logged;
 use pair_walk::inner::pairs_good;
@@ -17,8 +17,8 @@ pub fn offer_pairs(
     from_secs: &[i64],
 ) -> Logged
     ensures { Leaves
-        (pairsLogOf (whole table seqs.old secs.old) from_seqs.now from_secs.now)
-        (toldLog result) seqs.new secs.new }
+        (pairs_log_of (whole table seqs.old secs.old) from_seqs.now from_secs.now)
+        (told_log result) seqs.new secs.new }
 {
     let n = from_seqs.len();
     if n != from_secs.len() {
@@ -40,8 +40,8 @@ pub fn extend_from(
     other_secs: &[i64],
 ) -> Logged
     ensures { Leaves
-        (extendOf (whole table seqs.old secs.old) (whole other other_seqs.now other_secs.now))
-        (toldLog result) seqs.new secs.new }
+        (extend_of (whole table seqs.old secs.old) (whole other other_seqs.now other_secs.now))
+        (told_log result) seqs.new secs.new }
 {
     let n = other.count;
     let own = check(table, seqs, secs);

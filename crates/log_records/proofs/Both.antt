@@ -73,9 +73,9 @@ module _ (b₀ o₀ b₁ o₁ : ℕ) where
       pub gives_back : ent 𝓤 (mean 𝓛 Posted) (mean 𝓛 (later Back))
       gives_back =
           qed 𝓛 (Posted ∷ []) ∵ updating ! $ await ! tt $ pick ! (λ t. split ! $ move ! (1 ∷ []) $ pick ! (λ ws. split ! $ move ! (1 ∷ []) $ heard ! (φ t ws.0 ws.1.0) (λ e.
-          fsplit ! $ fsplit ! $ move ! (1 ∷ []) $ feq_l ! (λ lX. move ! (1 ∷ []) $ fsplit ! $ fsplit ! $ move ! (1 ∷ []) $ feq_l ! (λ lZ.
+          fsplit ! $ fsplit ! $ move ! (1 ∷ []) $ feq_l ! (λ l_x. move ! (1 ∷ []) $ fsplit ! $ fsplit ! $ move ! (1 ∷ []) $ feq_l ! (λ l_z.
           -- [secs's last list; true; seqs's; the tokens and the result]
-          at_once ! $ show ! (λ (t' : R.Denot). mean 𝓛 (Back₁ t')) t $ show ! (λ (xs' : List ℕ). mean 𝓛 (Back₂ t xs')) ws.0 $ show ! (λ (zs' : List ℤ). mean 𝓛 (Back₃ t ws.0 zs')) ws.1.0 $ check ! (lX, (lZ, e)) $
+          at_once ! $ show ! (λ (t' : R.Denot). mean 𝓛 (Back₁ t')) t $ show ! (λ (xs' : List ℕ). mean 𝓛 (Back₂ t xs')) ws.0 $ show ! (λ (zs' : List ℤ). mean 𝓛 (Back₃ t ws.0 zs')) ws.1.0 $ check ! (l_x, (l_z, e)) $
           move ! (3 ∷ []) $ split ! $ split ! $ frame ! $ split ! $ frame ! $ drop ! $ frame ! $ move ! (2 ∷ 0 ∷ []) $ frame ! $ move ! (1 ∷ []) $ drop ! $ done !)))))
 
     pub record Callee (c : Contract 𝓤) : Type 2 where
@@ -92,12 +92,12 @@ module _ (b₀ o₀ b₁ o₁ : ℕ) where
 
     module _ {M : Type 1} {𝓤 : Ura M} (𝓛 : Logic 𝓤) {xs : List ℕ} {zs : List ℤ} {R : RattleType} {φ : R.Denot → List ℕ → List ℤ → Type 0} {c : Contract 𝓤} (K : Callee 𝓛 xs zs R φ c)
         {Γ : List (Item 𝓤)} {E : Env 𝓤 𝓛.H} {Λ : Loops 𝓤 𝓛.H} {qP : Post 𝓤 𝓛.H} {f : Name} {d : Place} {rest : Body} {opds : List Operand} (C : Calls 𝓤 𝓛.H) (fm : FmC 𝓤 𝓛.H 𝓛.laws C) (known : Triple 𝓤 (C f) c) where
-      pub calls-both : Room u64 (length xs) → Room i64 (length zs)
+      pub calls_both : Room u64 (length xs) → Room i64 (length zs)
           → ((ν₀ ν₁ : ℕ) (δ₀ δ₁ : GName) → Opds (Go {0}) 𝓛 (raw (c.pre (K.to ν₀ ν₁ δ₀ δ₁)) ∷ ‵ (LentAgain i64 κ₁ (ν₁ ∷ []) q₁ γ₁ b₁ o₁ δ₁ zs) ∷ ‵ (LentAgain u64 κ₀ (ν₀ ∷ []) q₀ γ₀ b₀ o₀ δ₀ xs) ∷ Γ) E opds (c.args (K.to ν₀ ν₁ δ₀ δ₁)))
           → ((u : Val) (t : R.Denot) (xs' : List ℕ) (zs' : List ℤ) → Is R t (u ∷ []) → length xs' ≡ length xs → length zs' ≡ length zs → φ t xs' zs'
           → Sq 𝓛 (‵ (OwnX xs') ∷ ‵ (OwnZ zs') ∷ ‵ (flft κ₀ q₀) ∷ ‵ (flft κ₁ q₁) ∷ Γ) (lands C Λ E d u rest qP))
           → Sq 𝓛 (‵ (OwnX xs) ∷ ‵ (OwnZ zs) ∷ ‵ (flft κ₀ q₀) ∷ ‵ (flft κ₁ q₁) ∷ Γ) (runs C Λ E (seq (call f opds d) rest) qP)
-      calls-both roomX roomZ os k =
+      calls_both roomX roomZ os k =
           lft_new ! tt (λ ν₀. lft_new ! tt (λ ν₁.
           -- [ν₁; ν₀; seqs; secs; κ₀; κ₁; Γ]
           move ! (2 ∷ 4 ∷ []) $

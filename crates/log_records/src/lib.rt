@@ -1,6 +1,6 @@
 // A log of offers that arrives as a lent list of records, each a sequence and a second.
 ghost use Rattle.offers.specs.Whole.{whole, Leaves};
-ghost use Rattle.log.specs.Log.{toldLog, logOf};
+ghost use Rattle.log.specs.Log.{told_log, log_of};
 ghost use Rattle.log.specs.Inner.{Begins};
 
 use log::inner::{Phase, Progress};
@@ -32,8 +32,8 @@ pub fn offer_all(
     records: &[TrackedSeq],
 ) -> Logged
     ensures { Leaves
-        (logOf (whole table seqs.old secs.old) records.now)
-        (toldLog result) seqs.new secs.new }
+        (log_of (whole table seqs.old secs.old) records.now)
+        (told_log result) seqs.new secs.new }
 {
     let mut p = begin(seqs, secs, table, records.len());
     let mut i = 0;

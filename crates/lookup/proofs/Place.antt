@@ -12,9 +12,9 @@ use lib.ListN.{get_or}
 use Rattle.order.specs.First.{first, final}
 use Rattle.order.specs.Order.{drops}
 use Rattle.order.specs.Inner.{NoneBelow}
-use Rattle.order.proofs.Bools.{other, true-false, below_or}
-use Rattle.order.proofs.First.{first-is, first-none, first-within, first_holds, first-least, first_under, first_out}
-use Rattle.order.proofs.Last.{final-is, final-none, final-holds, final-most, final-over, final-out}
+use Rattle.order.proofs.Bools.{other, true_false, below_or}
+use Rattle.order.proofs.First.{first_is, first-none, first-within, first_holds, first_least, first_under, first_out}
+use Rattle.order.proofs.Last.{final_is, final-none, final_holds, final-most, final-over, final-out}
 use Rattle.order.proofs.Order.{Order, rises}
 use Rattle.search.specs.Keys.{smaller, greater}
 use Rattle.lookup.specs.Find.{place}
@@ -31,9 +31,9 @@ equal_is true g e = absurd (false≢true e)
 equal_is false true e = absurd (false≢true e)
 equal_is false false e = (refl, refl)
 
-pub is-smaller : (s g : Bool) → not s && not g ≡ false → g ≡ false → s ≡ true
-is-smaller true g e f = refl
-is-smaller false g e f = absurd (true≢false (rw f at e))
+pub is_smaller : (s g : Bool) → not s && not g ≡ false → g ≡ false → s ≡ true
+is_smaller true g e f = refl
+is_smaller false g e f = absurd (true≢false (rw f at e))
 
 is_greater : (s g : Bool) → not s && not g ≡ false → s ≡ false → g ≡ true
 is_greater s true e f = refl
@@ -44,20 +44,20 @@ module _ {K : Type 0} (lt : K → K → Bool) (O : Order lt) (d : K) (keys : Lis
   equal-at y j = equal_is (smaller lt d keys y j) (greater lt d keys y j)
 
   smaller-at : (j : ℕ) → equal lt d keys x j ≡ false → greater lt d keys x j ≡ false → smaller lt d keys x j ≡ true
-  smaller-at j = is-smaller (smaller lt d keys x j) (greater lt d keys x j)
+  smaller-at j = is_smaller (smaller lt d keys x j) (greater lt d keys x j)
 
   greater-at : (j : ℕ) → equal lt d keys x j ≡ false → smaller lt d keys x j ≡ false → greater lt d keys x j ≡ true
   greater-at j = is_greater (smaller lt d keys x j) (greater lt d keys x j)
 
   -- what the two places are, by the tests
-  up-side : place lt d RoundUp keys n x < n → smaller lt d keys x (place lt d RoundUp keys n x) ≡ false
-  up-side h = un_not _ true (first_holds (λ i. not (smaller lt d keys x i)) n h)
+  up_side : place lt d RoundUp keys n x < n → smaller lt d keys x (place lt d RoundUp keys n x) ≡ false
+  up_side h = un_not _ true (first_holds (λ i. not (smaller lt d keys x i)) n h)
 
   up-under : (j : ℕ) → j < n → j < place lt d RoundUp keys n x → smaller lt d keys x j ≡ true
   up-under j l h = un_not _ false (first_under (λ i. not (smaller lt d keys x i)) n j l h)
 
-  down-side : place lt d RoundDown keys n x < n → greater lt d keys x (place lt d RoundDown keys n x) ≡ false
-  down-side h = un_not _ true (final-holds (λ i. not (greater lt d keys x i)) n h)
+  down_side : place lt d RoundDown keys n x < n → greater lt d keys x (place lt d RoundDown keys n x) ≡ false
+  down_side h = un_not _ true (final_holds (λ i. not (greater lt d keys x i)) n h)
 
   down-over : (j : ℕ) → j < n → place lt d RoundDown keys n x < j → greater lt d keys x j ≡ true
   down-over j l h = un_not _ false (final-over (λ i. not (greater lt d keys x i)) n j l h)
@@ -93,10 +93,10 @@ module _ {K : Type 0} (lt : K → K → Bool) (O : Order lt) (d : K) (keys : Lis
         let p = place lt d RoundUp keys n x in
         record {
           within = h;
-          not-below = up-side h;
-          nearest = λ j l e. rise p j (first-least (λ i. not (smaller lt d keys x i)) n j l (rw e)) l;
+          not_below = up_side h;
+          nearest = λ j l e. rise p j (first_least (λ i. not (smaller lt d keys x i)) n j l (rw e)) l;
           lowest = λ j l e. ⊎_elim
-              (λ (b : j < p). absurd (true-false _ (O.lt-le (get_or keys j d) x (get_or keys p d) (up-under j l b) (up-side h)) (equal-at (get_or keys p d) j e).0))
+              (λ (b : j < p). absurd (true_false _ (O.lt_le (get_or keys j d) x (get_or keys p d) (up-under j l b) (up_side h)) (equal-at (get_or keys p d) j e).0))
               (λ (b : p ≤ j). b)
               (below_or j p);
         }
@@ -104,21 +104,21 @@ module _ {K : Type 0} (lt : K → K → Bool) (O : Order lt) (d : K) (keys : Lis
         let p = place lt d RoundDown keys n x in
         record {
           within = h;
-          not-above = down-side h;
+          not_above = down_side h;
           nearest = λ j l e. rise j p (final-most (λ i. not (greater lt d keys x i)) n j l (rw e)) h;
           highest = λ j l e. ⊎_elim
-              (λ (b : p < j). absurd (true-false _ (O.le-lt (get_or keys p d) x (get_or keys j d) (down-side h) (down-over j l b)) (equal-at (get_or keys p d) j e).1))
+              (λ (b : p < j). absurd (true_false _ (O.le_lt (get_or keys p d) x (get_or keys j d) (down_side h) (down-over j l b)) (equal-at (get_or keys p d) j e).1))
               (λ (b : j ≤ p). b)
               (below_or p j);
         }
 
     -- and no other
-    pub nearest-is : (opt : FindOption) (p : ℕ) → Nearest lt d opt keys n x p → place lt d opt keys n x ≡ p
-    nearest-is RoundUp p N =
+    pub nearest_is : (opt : FindOption) (p : ℕ) → Nearest lt d opt keys n x p → place lt d opt keys n x ≡ p
+    nearest_is RoundUp p N =
         let w : p ≤ n = omega (arith, N.within) in
-        first-is (λ i. not (smaller lt d keys x i)) n p w
+        first_is (λ i. not (smaller lt d keys x i)) n p w
         (λ j l. rw (under j l))
-        (λ l. rw N.not-below)
+        (λ l. rw N.not_below)
       where
         under : (j : ℕ) → j < p → smaller lt d keys x j ≡ true
         under j l = pick (smaller lt d keys x j) refl
@@ -128,8 +128,8 @@ module _ {K : Type 0} (lt : K → K → Bool) (O : Order lt) (d : K) (keys : Lis
             pick false e =
                 let k : j < n = omega (arith, N.within) in
                 absurd (omega (arith, N.lowest j k (rw (N.nearest j k e, rise j p (omega arith) N.within))))
-    nearest-is RoundDown p N =
-        final-is (λ i. not (greater lt d keys x i)) n p N.within (rw N.not-above) (λ j a l. rw (over j a l))
+    nearest_is RoundDown p N =
+        final_is (λ i. not (greater lt d keys x i)) n p N.within (rw N.not_above) (λ j a l. rw (over j a l))
       where
         over : (j : ℕ) → p < j → j < n → greater lt d keys x j ≡ true
         over j a l = pick (greater lt d keys x j) refl
@@ -142,13 +142,13 @@ module _ {K : Type 0} (lt : K → K → Bool) (O : Order lt) (d : K) (keys : Lis
 
     -- before an equal key none is above x, and after it none is below
     before-equal : (i j : ℕ) → j ≤ i → i < n → greater lt d keys x i ≡ false → greater lt d keys x j ≡ false
-    before-equal i j h l e = other _ (λ g. true-false _ (O.lt-le x (get_or keys j d) (get_or keys i d) g (rise j i h l)) e)
+    before-equal i j h l e = other _ (λ g. true_false _ (O.lt_le x (get_or keys j d) (get_or keys i d) g (rise j i h l)) e)
 
     after_equal : (i j : ℕ) → i ≤ j → j < n → smaller lt d keys x i ≡ false → smaller lt d keys x j ≡ false
-    after_equal i j h l e = other _ (λ s. true-false _ (O.le-lt (get_or keys i d) (get_or keys j d) x (rise i j h l) s) e)
+    after_equal i j h l e = other _ (λ s. true_false _ (O.le_lt (get_or keys i d) (get_or keys j d) x (rise i j h l) s) e)
 
-    pub in-words : (opt : FindOption) → place lt d opt keys n x ≡ in_words lt d opt keys n x
-    in-words RoundUp = go (ltb (first (equal lt d keys x) n) n) refl
+    pub in_words_lem : (opt : FindOption) → place lt d opt keys n x ≡ in_words lt d opt keys n x
+    in_words_lem RoundUp = go (ltb (first (equal lt d keys x) n) n) refl
       where
         q : ℕ
         q = first (equal lt d keys x) n
@@ -160,16 +160,16 @@ module _ {K : Type 0} (lt : K → K → Bool) (O : Order lt) (d : K) (keys : Lis
         go true e =
             let l = ltb-true q n e in
             let here = equal-at x q (first_holds (equal lt d keys x) n l) in
-            first-is (λ i. not (smaller lt d keys x i)) n q (first-within (equal lt d keys x) n)
+            first_is (λ i. not (smaller lt d keys x i)) n q (first-within (equal lt d keys x) n)
             (λ j h. rw (smaller-at j (first_under (equal lt d keys x) n j (omega arith) h) (before-equal q j (omega arith) l here.1)))
             (λ _. rw here.0)
         go false e =
             let none = first_out (equal lt d keys x) n (ltb-false q n e) in
             let w = first-within (greater lt d keys x) n in
-            first-is (λ i. not (smaller lt d keys x i)) n g w
+            first_is (λ i. not (smaller lt d keys x i)) n g w
             (λ j h. let l : j < n = omega arith in rw (smaller-at j (none j l) (first_under (greater lt d keys x) n j l h)))
             (λ l. rw (O.asym x (get_or keys g d) (first_holds (greater lt d keys x) n l)))
-    in-words RoundDown = go (ltb (final (equal lt d keys x) n) n) refl
+    in_words_lem RoundDown = go (ltb (final (equal lt d keys x) n) n) refl
       where
         q : ℕ
         q = final (equal lt d keys x) n
@@ -180,14 +180,14 @@ module _ {K : Type 0} (lt : K → K → Bool) (O : Order lt) (d : K) (keys : Lis
         go : (b : Bool) → ltb q n ≡ b → place lt d RoundDown keys n x ≡ cond b q s
         go true e =
             let l = ltb-true q n e in
-            let here = equal-at x q (final-holds (equal lt d keys x) n l) in
-            final-is (λ i. not (greater lt d keys x i)) n q l (rw here.1)
+            let here = equal-at x q (final_holds (equal lt d keys x) n l) in
+            final_is (λ i. not (greater lt d keys x i)) n q l (rw here.1)
             (λ j a b. rw (greater-at j (final-over (equal lt d keys x) n j b a) (after_equal q j (omega arith) b here.0)))
         go false e =
             let none = final-out (equal lt d keys x) n (ltb-false q n e) in
             ⊎_elim
-            (λ (l : s < n). final-is (λ i. not (greater lt d keys x i)) n s l
-            (rw (O.asym (get_or keys s d) x (final-holds (smaller lt d keys x) n l)))
+            (λ (l : s < n). final_is (λ i. not (greater lt d keys x i)) n s l
+            (rw (O.asym (get_or keys s d) x (final_holds (smaller lt d keys x) n l)))
             (λ j a b. rw (greater-at j (none j b) (final-over (smaller lt d keys x) n j b a))))
             (λ (h : n ≤ s).
             let out = final-out (smaller lt d keys x) n h in

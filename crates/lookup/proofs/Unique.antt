@@ -3,38 +3,38 @@ use mathlib.Core.Path.{◌≡◌, refl, ap}
 use Rattle.told.specs.Told.{Told, gave, refused}
 use Rattle.tracker.specs.declared.Seq.{Seq}
 use Rattle.tracker.specs.declared.Second.{Second}
-use Rattle.tracker.proofs.Unique.{undone, refusalOf, refusal-back}
+use Rattle.tracker.proofs.Unique.{undone, refusal_of, refusal-back}
 use Rattle.lookup.specs.Find.{Partner, partner, nothing}
-use Rattle.lookup.specs.Found.{toldTs, toldSeq}
+use Rattle.lookup.specs.Found.{told_ts, told_seq}
 use Rattle.lookup.specs.declared.FoundTs.{FoundTs}
 use Rattle.lookup.specs.declared.FoundTs.TheVariants as ts
 use Rattle.lookup.specs.declared.FoundSeq.{FoundSeq}
 use Rattle.lookup.specs.declared.FoundSeq.TheVariants as seq
 
-tsOf : Told (Partner Second) → FoundTs
-tsOf (gave (partner s)) = ts.At s
-tsOf (gave nothing) = ts.Nothing
-tsOf (refused l) = ts.Refused (refusalOf l)
+ts_of : Told (Partner Second) → FoundTs
+ts_of (gave (partner s)) = ts.At s
+ts_of (gave nothing) = ts.Nothing
+ts_of (refused l) = ts.Refused (refusal_of l)
 
-pub one-ts : (a b : FoundTs) → toldTs a ≡ toldTs b → a ≡ b
-unfolding tsOf
-one-ts = undone toldTs tsOf (λ f. back f)
+pub one_ts : (a b : FoundTs) → told_ts a ≡ told_ts b → a ≡ b
+unfolding ts_of
+one_ts = undone told_ts ts_of (λ f. back f)
   where
-    back : (f : FoundTs) → tsOf (toldTs f) ≡ f
+    back : (f : FoundTs) → ts_of (told_ts f) ≡ f
     back (ts.At s) = refl
     back ts.Nothing = refl
     back (ts.Refused r) = ap ts.Refused (refusal-back r)
 
-seqOf : Told (Partner Seq) → FoundSeq
-seqOf (gave (partner q)) = seq.At q
-seqOf (gave nothing) = seq.Nothing
-seqOf (refused l) = seq.Refused (refusalOf l)
+seq_of : Told (Partner Seq) → FoundSeq
+seq_of (gave (partner q)) = seq.At q
+seq_of (gave nothing) = seq.Nothing
+seq_of (refused l) = seq.Refused (refusal_of l)
 
-pub one-seq : (a b : FoundSeq) → toldSeq a ≡ toldSeq b → a ≡ b
-unfolding seqOf
-one-seq = undone toldSeq seqOf (λ f. back f)
+pub one_seq : (a b : FoundSeq) → told_seq a ≡ told_seq b → a ≡ b
+unfolding seq_of
+one_seq = undone told_seq seq_of (λ f. back f)
   where
-    back : (f : FoundSeq) → seqOf (toldSeq f) ≡ f
+    back : (f : FoundSeq) → seq_of (told_seq f) ≡ f
     back (seq.At q) = refl
     back seq.Nothing = refl
     back (seq.Refused r) = ap seq.Refused (refusal-back r)

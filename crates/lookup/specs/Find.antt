@@ -1,9 +1,9 @@
 -- Lookups, by sequence or by second.
 use Rattle.std.specs.Prelude.{ℕ, Bool, cond, List, ltb, ℤ, pos, get_or}
 use Rattle.std.specs.Int.Signed.{lt_z}
-use Rattle.told.specs.Told.{Told, gave, ifGood}
-use Rattle.search.specs.Keys.{firstNotBelow, lastNotAbove}
-use Rattle.tracker.specs.Table.{checkOf}
+use Rattle.told.specs.Told.{Told, gave, if_good}
+use Rattle.search.specs.Keys.{first_not_below, last_not_above}
+use Rattle.tracker.specs.Table.{check_of}
 use Rattle.tracker.specs.declared.Seq.{Seq}
 use Rattle.tracker.specs.declared.Second.{Second}
 use Rattle.tracker.specs.declared.SequenceTracker.{SequenceTracker}
@@ -23,20 +23,20 @@ standing at n p = cond (ltb p n) (partner (at p)) nothing
 module _ {K : Type 0} (lt : K → K → Bool) (d : K) where
   -- the position that answers, or n: RoundUp takes the first key that is not below x, RoundDown the last that is not above it
   abbrev pub place : FindOption → List K → ℕ → K → ℕ
-  place RoundUp keys n x = firstNotBelow lt d keys n x
-  place RoundDown keys n x = lastNotAbove lt d keys n x
+  place RoundUp keys n x = first_not_below lt d keys n x
+  place RoundDown keys n x = last_not_above lt d keys n x
 
 -- the second, and the sequence, of the pair at a position
-abbrev pub secondAt : List ℤ → ℕ → Second
-secondAt secs p = record { 0 = get_or secs p (pos 0) }
+abbrev pub second_at : List ℤ → ℕ → Second
+second_at secs p = record { 0 = get_or secs p (pos 0) }
 
-abbrev pub seqAt : List ℕ → ℕ → Seq
-seqAt seqs p = record { 0 = get_or seqs p 0 }
+abbrev pub seq_at : List ℕ → ℕ → Seq
+seq_at seqs p = record { 0 = get_or seqs p 0 }
 
 -- `find_ts`: the table is checked, then the second of the pair that answers
-abbrev pub findTs : SequenceTracker → List ℕ → List ℤ → Seq → FindOption → Told (Partner Second)
-findTs table seqs secs seq opt = ifGood (checkOf table seqs secs) (gave (standing (secondAt secs) table.count (place ltb 0 opt seqs table.count seq.0)))
+abbrev pub find_ts : SequenceTracker → List ℕ → List ℤ → Seq → FindOption → Told (Partner Second)
+find_ts table seqs secs seq opt = if_good (check_of table seqs secs) (gave (standing (second_at secs) table.count (place ltb 0 opt seqs table.count seq.0)))
 
 -- `find_seq`: the sequence of the pair that answers
-abbrev pub findSeq : SequenceTracker → List ℕ → List ℤ → Second → FindOption → Told (Partner Seq)
-findSeq table seqs secs ts opt = ifGood (checkOf table seqs secs) (gave (standing (seqAt seqs) table.count (place lt_z (pos 0) opt secs table.count ts.0)))
+abbrev pub find_seq : SequenceTracker → List ℕ → List ℤ → Second → FindOption → Told (Partner Seq)
+find_seq table seqs secs ts opt = if_good (check_of table seqs secs) (gave (standing (seq_at seqs) table.count (place lt_z (pos 0) opt secs table.count ts.0)))

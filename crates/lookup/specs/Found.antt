@@ -10,13 +10,13 @@ use Rattle.lookup.specs.declared.FoundSeq.{FoundSeq}
 use Rattle.lookup.specs.declared.FoundSeq.TheVariants as seq
 
 -- what `find_ts` tells
-abbrev pub toldTs : FoundTs → Told (Partner Second)
-toldTs (ts.At s) = gave (partner s)
-toldTs ts.Nothing = gave nothing
-toldTs (ts.Refused r) = refused (told r)
+abbrev pub told_ts : FoundTs → Told (Partner Second)
+told_ts (ts.At s) = gave (partner s)
+told_ts ts.Nothing = gave nothing
+told_ts (ts.Refused r) = refused (told r)
 
 -- what `find_seq` tells
-abbrev pub toldSeq : FoundSeq → Told (Partner Seq)
-toldSeq (seq.At q) = gave (partner q)
-toldSeq seq.Nothing = gave nothing
-toldSeq (seq.Refused r) = refused (told r)
+abbrev pub told_seq : FoundSeq → Told (Partner Seq)
+told_seq (seq.At q) = gave (partner q)
+told_seq seq.Nothing = gave nothing
+told_seq (seq.Refused r) = refused (told r)

@@ -1,7 +1,7 @@
 // Lookups in a table: the second of a sequence number, and the sequence number of a second.
 ghost use Rattle.std.specs.Prelude.{◌≡◌};
-ghost use Rattle.lookup.specs.Find.{findTs, findSeq};
-ghost use Rattle.lookup.specs.Found.{toldTs, toldSeq};
+ghost use Rattle.lookup.specs.Find.{find_ts, find_seq};
+ghost use Rattle.lookup.specs.Found.{told_ts, told_seq};
 
 use tracker::{Checked, Refusal, Second, Seq, SequenceTracker, check};
 
@@ -36,7 +36,7 @@ pub fn find_ts(
     seq: Seq,
     find_opt: FindOption,
 ) -> FoundTs
-    ensures { toldTs result ≡ findTs table seqs.now secs.now seq find_opt }
+    ensures { told_ts result ≡ find_ts table seqs.now secs.now seq find_opt }
 {
     let checked = check(table, seqs, secs);
     match checked {
@@ -62,7 +62,7 @@ pub fn find_seq(
     ts: Second,
     find_opt: FindOption,
 ) -> FoundSeq
-    ensures { toldSeq result ≡ findSeq table seqs.now secs.now ts find_opt }
+    ensures { told_seq result ≡ find_seq table seqs.now secs.now ts find_opt }
 {
     let checked = check(table, seqs, secs);
     match checked {

@@ -6,25 +6,25 @@ use lib.IntN.{ℤ}
 use Rattle.told.specs.Told.{Told, gave, refused}
 use Rattle.tracker.specs.declared.Seq.{Seq}
 use Rattle.tracker.specs.declared.Second.{Second}
-use Rattle.tracker.proofs.Unique.{undone, refusalOf, refusal-back}
+use Rattle.tracker.proofs.Unique.{undone, refusal_of, refusal-back}
 use Rattle.offers.specs.Whole.{Table, Left, Leaves}
-use Rattle.offers.specs.Offer.{Outcome, recorded, wentBack, tooSoon, pairRefused, toldOffer, offerTo, offeredTo, offering}
+use Rattle.offers.specs.Offer.{Outcome, recorded, went_back, too_soon, pair_refused, told_offer, offer_to, offered_to, offering}
 use Rattle.offers.specs.declared.Offered.{Offered}
 use Rattle.offers.specs.declared.Offered.TheVariants.{Recorded, WentBack, TooSoon, PairRefused, Refused}
 
-offeredOf : Told Outcome → Offered
-offeredOf (gave (recorded t)) = Recorded t
-offeredOf (gave (wentBack t)) = WentBack t
-offeredOf (gave (tooSoon t)) = TooSoon t
-offeredOf (gave (pairRefused l t)) = PairRefused (refusalOf l) t
-offeredOf (refused l) = Refused (refusalOf l)
+offered_of : Told Outcome → Offered
+offered_of (gave (recorded t)) = Recorded t
+offered_of (gave (went_back t)) = WentBack t
+offered_of (gave (too_soon t)) = TooSoon t
+offered_of (gave (pair_refused l t)) = PairRefused (refusal_of l) t
+offered_of (refused l) = Refused (refusal_of l)
 
 -- the answer can be had back from what is told
-pub one_answer : (a b : Offered) → toldOffer a ≡ toldOffer b → a ≡ b
-unfolding offeredOf
-one_answer = undone toldOffer offeredOf (λ o. back o)
+pub one_answer : (a b : Offered) → told_offer a ≡ told_offer b → a ≡ b
+unfolding offered_of
+one_answer = undone told_offer offered_of (λ o. back o)
   where
-    back : (o : Offered) → offeredOf (toldOffer o) ≡ o
+    back : (o : Offered) → offered_of (told_offer o) ≡ o
     back (Recorded t) = refl
     back (WentBack t) = refl
     back (TooSoon t) = refl
@@ -38,10 +38,10 @@ one_left tells one left a b seqs₁ seqs₂ secs₁ secs₂ p q = (one a b (p.0 
 
 -- of `offer`
 pub one-offer : (w : Table) (seq : Seq) (ts : Second) (a b : Offered) (seqs₁ seqs₂ : List ℕ) (secs₁ secs₂ : List ℤ)
-    → Leaves (offering w seq ts) (toldOffer a) seqs₁ secs₁ → Leaves (offering w seq ts) (toldOffer b) seqs₂ secs₂ → (a ≡ b) × (seqs₁ ≡ seqs₂) × (secs₁ ≡ secs₂)
-one-offer w seq ts = one_left toldOffer one_answer (offering w seq ts)
+    → Leaves (offering w seq ts) (told_offer a) seqs₁ secs₁ → Leaves (offering w seq ts) (told_offer b) seqs₂ secs₂ → (a ≡ b) × (seqs₁ ≡ seqs₂) × (secs₁ ≡ secs₂)
+one-offer w seq ts = one_left told_offer one_answer (offering w seq ts)
 
 -- what an offer leaves, by what its answer tells
-pub left_by : (w : Table) (seq : Seq) (ts : Second) {told : Told Outcome} {seqs : List ℕ} {secs : List ℤ} → told ≡ offerTo w seq ts → seqs ≡ (offeredTo w seq ts told).seqs → secs ≡ (offeredTo w seq ts told).secs
+pub left_by_lem : (w : Table) (seq : Seq) (ts : Second) {told : Told Outcome} {seqs : List ℕ} {secs : List ℤ} → told ≡ offer_to w seq ts → seqs ≡ (offered_to w seq ts told).seqs → secs ≡ (offered_to w seq ts told).secs
     → Leaves (offering w seq ts) told seqs secs
-left_by w seq ts e x z = (e, x ∙ ap (λ (o : Told Outcome). (offeredTo w seq ts o).seqs) e, z ∙ ap (λ (o : Told Outcome). (offeredTo w seq ts o).secs) e)
+left_by_lem w seq ts e x z = (e, x ∙ ap (λ (o : Told Outcome). (offered_to w seq ts o).seqs) e, z ∙ ap (λ (o : Told Outcome). (offered_to w seq ts o).secs) e)

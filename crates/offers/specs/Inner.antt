@@ -6,25 +6,25 @@ use Rattle.totals.specs.declared.Fate.TheVariants as fate
 use Rattle.tracker.specs.Refusal.{told}
 use Rattle.tracker.specs.declared.Second.{Second}
 use Rattle.tracker.specs.declared.SequenceTracker.{SequenceTracker}
-use Rattle.offers.specs.Offer.{Outcome, recorded, wentBack, tooSoon, pairRefused, counting, stateWith}
+use Rattle.offers.specs.Offer.{Outcome, recorded, went_back, too_soon, pair_refused, counting, state_with}
 use Rattle.offers.specs.declared.inner.Came.{Came}
 use Rattle.offers.specs.declared.inner.Came.TheVariants.{Recorded, WentBack, TooSoon, PairRefused, Full}
 
 -- what an offer of this second tells, to a table of this state, of which this came
-abbrev pub toldCame : SequenceTracker → Second → Came → Told Outcome
-toldCame table ts (Recorded count) = gave (recorded (stateWith table count ts))
-toldCame table ts WentBack = gave (wentBack (counting fate.WentBack table))
-toldCame table ts TooSoon = gave (tooSoon (counting fate.TooSoon table))
-toldCame table ts (PairRefused why) = gave (pairRefused (told why) (counting fate.Refused table))
-toldCame table ts Full = refused (31 ∷ [])
+abbrev pub told_came : SequenceTracker → Second → Came → Told Outcome
+told_came table ts (Recorded count) = gave (recorded (state_with table count ts))
+told_came table ts WentBack = gave (went_back (counting fate.WentBack table))
+told_came table ts TooSoon = gave (too_soon (counting fate.TooSoon table))
+told_came table ts (PairRefused why) = gave (pair_refused (told why) (counting fate.Refused table))
+told_came table ts Full = refused (31 ∷ [])
 
 -- the state after it
-abbrev pub stateAfter : SequenceTracker → Second → Came → SequenceTracker
-stateAfter table ts (Recorded count) = stateWith table count ts
-stateAfter table ts WentBack = counting fate.WentBack table
-stateAfter table ts TooSoon = counting fate.TooSoon table
-stateAfter table ts (PairRefused why) = counting fate.Refused table
-stateAfter table ts Full = table
+abbrev pub state_after : SequenceTracker → Second → Came → SequenceTracker
+state_after table ts (Recorded count) = state_with table count ts
+state_after table ts WentBack = counting fate.WentBack table
+state_after table ts TooSoon = counting fate.TooSoon table
+state_after table ts (PairRefused why) = counting fate.Refused table
+state_after table ts Full = table
 
 -- there is room to count it, if it is counted
 abbrev pub RoomFor : SequenceTracker → Came → Type 0

@@ -1,7 +1,7 @@
 -- A table whole, and what a call on one tells and leaves.
 use Rattle.std.specs.Prelude.{ℕ, ◌≡◌, List, ℤ}
 use Rattle.told.specs.Told.{Told}
-use Rattle.tracker.specs.Table.{checkOf}
+use Rattle.tracker.specs.Table.{check_of}
 use Rattle.tracker.specs.declared.SequenceTracker.{SequenceTracker}
 
 -- a table: its state and its two lent arrays, whole
@@ -14,8 +14,8 @@ abbrev pub whole : SequenceTracker → List ℕ → List ℤ → Table
 whole state seqs secs = record { state = state; seqs = seqs; secs = secs }
 
 -- 14, then 11, 12, 13 over the pairs that it keeps
-abbrev pub checkIn : Table → Told (Unit {0})
-checkIn w = checkOf w.state w.seqs w.secs
+abbrev pub check_in : Table → Told (Unit {0})
+check_in w = check_of w.state w.seqs w.secs
 
 -- what a call answers, and the table afterwards
 pub record Left (A : Type 0) : Type 0 where

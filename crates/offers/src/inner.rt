@@ -1,10 +1,10 @@
 // An offer to a table that is known to be good, for callers that have checked it: what came of it, and then the state after it.
 ghost use Rattle.std.specs.Prelude.{◌≡◌};
 ghost use Rattle.told.specs.Told.{gave};
-ghost use Rattle.tracker.specs.Table.{checkOf};
+ghost use Rattle.tracker.specs.Table.{check_of};
 ghost use Rattle.offers.specs.Whole.{whole, Leaves};
 ghost use Rattle.offers.specs.Offer.{offering};
-ghost use Rattle.offers.specs.Inner.{toldCame, stateAfter, RoomFor};
+ghost use Rattle.offers.specs.Inner.{told_came, state_after, RoomFor};
 
 use crate::steps;
 use keeping::inner as keep;
@@ -32,10 +32,10 @@ pub fn offer_good(
     seq: Seq,
     ts: Second,
 ) -> Came
-    requires { checkOf table seqs.old secs.old ≡ gave tt }
+    requires { check_of table seqs.old secs.old ≡ gave tt }
     ensures { Leaves
         (offering (whole table seqs.old secs.old) seq ts)
-        (toldCame table ts result) seqs.new secs.new }
+        (told_came table ts result) seqs.new secs.new }
 {
     let q = seq.0;
     let s = ts.0;
@@ -65,7 +65,7 @@ pub fn offer_good(
 // The state after it: a skip, or a refusal of the pair, changes nothing but a total.
 pub fn after(table: SequenceTracker, came: Came, ts: Second) -> SequenceTracker
     requires { RoomFor table came }
-    ensures { result ≡ stateAfter table ts came }
+    ensures { result ≡ state_after table ts came }
 {
     match came {
         Came::Recorded(count) => steps::with_pair(table, count, ts),

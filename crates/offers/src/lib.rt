@@ -1,7 +1,7 @@
 // One offer to a table: a pair is recorded, skipped, with the reason, or refused; and, unless the table is bad or its totals are full, the
 // offer is counted.
 ghost use Rattle.offers.specs.Whole.{whole, Leaves};
-ghost use Rattle.offers.specs.Offer.{toldOffer, offering};
+ghost use Rattle.offers.specs.Offer.{told_offer, offering};
 
 use tracker::{Checked, Refusal, Second, Seq, SequenceTracker, check};
 
@@ -32,7 +32,7 @@ pub fn offer(
 ) -> Offered
     ensures { Leaves
         (offering (whole table seqs.old secs.old) seq ts)
-        (toldOffer result) seqs.new secs.new }
+        (told_offer result) seqs.new secs.new }
 {
     let checked = check(table, seqs, secs);
     match checked {

@@ -1,8 +1,8 @@
 // The test for 17, the states that an offer leaves, and its answer.
 ghost use Rattle.std.specs.Prelude.{◌≡◌, ◌≤◌, ◌<◌, length};
 ghost use Rattle.totals.specs.Totals.{sum_of, most};
-ghost use Rattle.offers.specs.Offer.{toldOffer, lowSeq, counting, stateWith};
-ghost use Rattle.offers.specs.Inner.{toldCame, RoomFor};
+ghost use Rattle.offers.specs.Offer.{told_offer, low_seq, counting, state_with};
+ghost use Rattle.offers.specs.Inner.{told_came, RoomFor};
 
 use crate::inner::Came;
 use crate::{Offered, inner};
@@ -13,7 +13,7 @@ use tracker::{LastRecorded, Refusal, Second, SequenceTracker};
 // Whether q is below the last kept sequence.
 pub(crate) fn low_seq(seqs: &[u64], n: usize, q: u64) -> bool
     requires { n ≤ length seqs.now }
-    ensures { result ≡ lowSeq seqs.now n q }
+    ensures { result ≡ low_seq seqs.now n q }
 {
     if n == 0 {
         return false;
@@ -40,7 +40,7 @@ pub(crate) fn counted(table: SequenceTracker, fate: Fate) -> SequenceTracker
 // The one place where the state after a recorded pair is built.
 pub(crate) fn with_pair(table: SequenceTracker, count: usize, ts: Second) -> SequenceTracker
     requires { sum_of table.totals < most }
-    ensures { result ≡ stateWith table count ts }
+    ensures { result ≡ state_with table count ts }
 {
     let at = LastRecorded::At(ts);
     let totals = one_more(table.totals, Fate::Recorded);
@@ -56,7 +56,7 @@ pub(crate) fn with_pair(table: SequenceTracker, count: usize, ts: Second) -> Seq
 // What came of an offer, with the state after it.
 pub(crate) fn offered(table: SequenceTracker, came: Came, ts: Second) -> Offered
     requires { RoomFor table came }
-    ensures { toldOffer result ≡ toldCame table ts came }
+    ensures { told_offer result ≡ told_came table ts came }
 {
     let next = inner::after(table, came, ts);
     match came {

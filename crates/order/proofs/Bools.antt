@@ -14,8 +14,8 @@ pub other : (b : Bool) → (b ≡ true → ⊥) → b ≡ false
 other true f = absurd (f refl)
 other false f = refl
 
-pub true-false : (b : Bool) → b ≡ true → b ≡ false → ⊥
-true-false b p q = true≢false (sym p ∙ q)
+pub true_false : (b : Bool) → b ≡ true → b ≡ false → ⊥
+true_false b p q = true≢false (sym p ∙ q)
 
 pub neither : (a b : Bool) → a || b ≡ false → (a ≡ false) × (b ≡ false)
 neither true b e = absurd (true≢false e)
@@ -32,10 +32,10 @@ below_or j k = go (ltb j k) refl
     go false e = inr (ltb-false j k e)
 
 -- a refusal gives nothing
-pub not-given : {A : Type 0} (what : List ℕ) (a : A) → refused what ≡ gave a → ⊥
-not-given what a e = let z : ◌≡◌ {A = ℕ} 0 1 = cc in omega arith
+pub not_given : {A : Type 0} (what : List ℕ) (a : A) → refused what ≡ gave a → ⊥
+not_given what a e = let z : ◌≡◌ {A = ℕ} 0 1 = cc in omega arith
 
 -- a rule that is passed
 pub passed : {A : Type 0} (b : Bool) (what : List ℕ) (next : Told A) (a : A) → cond b (refused what) next ≡ gave a → (b ≡ false) × (next ≡ gave a)
-passed true what next a h = absurd (not-given what a h)
+passed true what next a h = absurd (not_given what a h)
 passed false what next a h = (refl, h)

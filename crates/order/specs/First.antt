@@ -2,13 +2,13 @@
 use Rattle.std.specs.Prelude.{ℕ, zero, suc, Bool, cond}
 
 -- of the n numbers from k on the first at which t holds, or k + n where there is none
-unfoldable pub firstFrom : (ℕ → Bool) → ℕ → ℕ → ℕ
-firstFrom t k zero = k
-firstFrom t k (suc n) = cond (t k) k (firstFrom t (suc k) n)
+unfoldable pub first_from : (ℕ → Bool) → ℕ → ℕ → ℕ
+first_from t k zero = k
+first_from t k (suc n) = cond (t k) k (first_from t (suc k) n)
 
 -- the first number below n at which t holds, or n where there is none
 abbrev pub first : (ℕ → Bool) → ℕ → ℕ
-first t n = firstFrom t 0 n
+first t n = first_from t 0 n
 
 -- the last number below n at which t holds, or `none`
 unfoldable pub last_or : (ℕ → Bool) → ℕ → ℕ → ℕ

@@ -7,5 +7,5 @@ abbrev pub drops : {K : Type 0} → (K → K → Bool) → K → List K → ℕ 
 drops lt d keys i = lt (get_or keys i d) (get_or keys (i - 1) d)
 
 -- the second at i is out of domain
-abbrev pub secOutside : List ℤ → ℕ → Bool
-secOutside secs i = outside (get_or secs i (pos 0))
+abbrev pub sec_outside : List ℤ → ℕ → Bool
+sec_outside secs i = outside (get_or secs i (pos 0))

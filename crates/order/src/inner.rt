@@ -2,7 +2,7 @@
 ghost use Rattle.std.specs.Prelude.{◌≡◌, ◌≤◌, ltb, pos, length};
 ghost use Rattle.std.specs.Int.Signed.{lt_z};
 ghost use Rattle.order.specs.First.{first};
-ghost use Rattle.order.specs.Order.{drops, secOutside};
+ghost use Rattle.order.specs.Order.{drops, sec_outside};
 ghost use Rattle.order.specs.Inner.{NoneBelow};
 
 use crate::steps;
@@ -40,7 +40,7 @@ pub fn sec_drop(secs: &[i64], n: usize) -> usize
 // The first second out of domain, or n. Since the seconds do not drop, the first and the last tell whether there is one.
 pub fn sec_outside(secs: &[i64], n: usize) -> usize
     requires { (n ≤ length secs.now) × NoneBelow (drops lt_z (pos 0) secs.now) n }
-    ensures { result ≡ first (secOutside secs.now) n }
+    ensures { result ≡ first (sec_outside secs.now) n }
 {
     if 0 < n {
         if !steps::sec_outside_at(secs, 0) {
@@ -55,7 +55,7 @@ pub fn sec_outside(secs: &[i64], n: usize) -> usize
 // The same of seconds in any order.
 pub fn first_outside(secs: &[i64], n: usize) -> usize
     requires { n ≤ length secs.now }
-    ensures { result ≡ first (secOutside secs.now) n }
+    ensures { result ≡ first (sec_outside secs.now) n }
 {
     let mut i = 0;
     while i < n {

@@ -1,7 +1,7 @@
 // One step of the checks, and four at a time. A signed comparison is a function of its own, so that its callers see none.
 ghost use Rattle.std.specs.Prelude.{◌≡◌, false, ◌+◌, ◌≤◌, ◌<◌, ltb, pos, length};
 ghost use Rattle.std.specs.Int.Signed.{lt_z};
-ghost use Rattle.order.specs.Order.{drops, secOutside};
+ghost use Rattle.order.specs.Order.{drops, sec_outside};
 ghost use Rattle.order.specs.Inner.{NoneBelow};
 
 pub(crate) fn seq_drops_at(seqs: &[u64], i: usize) -> bool
@@ -20,7 +20,7 @@ pub(crate) fn sec_drops_at(secs: &[i64], i: usize) -> bool
 
 pub(crate) fn sec_outside_at(secs: &[i64], i: usize) -> bool
     requires { i < length secs.now }
-    ensures { result ≡ secOutside secs.now i }
+    ensures { result ≡ sec_outside secs.now i }
 {
     limits::inner::out_of_domain(secs[i])
 }

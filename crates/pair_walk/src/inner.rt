@@ -1,11 +1,11 @@
 // The pairs of two lists, offered to a table that is known to be good.
 ghost use Rattle.std.specs.Prelude.{◌≡◌, ◌≤◌, ◌<◌, length, get_or, pos};
 ghost use Rattle.told.specs.Told.{gave};
-ghost use Rattle.tracker.specs.Table.{checkOf};
+ghost use Rattle.tracker.specs.Table.{check_of};
 ghost use Rattle.offers.specs.Whole.{whole, Leaves};
-ghost use Rattle.log.specs.Log.{toldLog};
+ghost use Rattle.log.specs.Log.{told_log};
 ghost use Rattle.log.specs.Pairs.{pair_of};
-ghost use Rattle.pair_walk.specs.Inner.{frontOf};
+ghost use Rattle.pair_walk.specs.Inner.{front_of};
 
 use log::{Logged, inner as steps};
 use tallies::inner::none_yet;
@@ -30,10 +30,10 @@ pub fn pairs_good(
     from_secs: &[i64],
     n: usize,
 ) -> Logged
-    requires { (checkOf table seqs.old secs.old ≡ gave tt) × (n ≤ length from_seqs.now) × (n ≤ length from_secs.now) }
+    requires { (check_of table seqs.old secs.old ≡ gave tt) × (n ≤ length from_seqs.now) × (n ≤ length from_secs.now) }
     ensures { Leaves
-        (frontOf (whole table seqs.old secs.old) n from_seqs.now from_secs.now)
-        (toldLog result) seqs.new secs.new }
+        (front_of (whole table seqs.old secs.old) n from_seqs.now from_secs.now)
+        (told_log result) seqs.new secs.new }
 {
     let mut p = steps::going(table, none_yet(), n);
     let mut i = 0;

@@ -5,7 +5,7 @@ use Prim.Native.Nat.{ℕ, ◌-◌, ◌≤◌}
 use native.Mathlib.Omega.{arith}
 use lib.ListN.{length, drop, length-drop}
 use Rattle.gorilla.specs.Parser.{Read, read}
-use Rattle.gorilla.proofs.Readers.{refused-not-read}
+use Rattle.gorilla.proofs.Readers.{refused_not_read}
 use Rattle.question_lines.specs.declared.Question.{Question}
 use Rattle.question_lines.specs.declared.LineRead.{LineRead}
 use Rattle.question_lines.specs.declared.LineRead.TheVariants.{At, NotTheForm}
@@ -30,12 +30,12 @@ one_line : (s : List ℕ) (m : Read Question) (a b : LineRead) → LineAt s m a 
 one_line s m (At q i) (At r j) f g =
     let e = sym f.0 ∙ g.0 in
     ap₂ {C = LineRead} (λ (q : Question) (i : ℕ). At q i) (same-value e) (same_place s i j f.1 g.1 (same_rest e))
-one_line s m (At q i) NotTheForm f g = refused-not-read (sym g ∙ f.0)
-one_line s m NotTheForm (At q i) f g = refused-not-read (sym f ∙ g.0)
+one_line s m (At q i) NotTheForm f g = refused_not_read (sym g ∙ f.0)
+one_line s m NotTheForm (At q i) f g = refused_not_read (sym f ∙ g.0)
 one_line s m NotTheForm NotTheForm f g = refl
 
 pub question-lines : QuestionLines
 question-lines = record {
-  reads-back = line_read;
+  reads_back = line_read;
   one_line = λ s. one_line s (question s);
 }

@@ -13,23 +13,23 @@ use Rattle.text_reader.specs.Words.{word, or_else}
 use Rattle.question_lines.specs.declared.Question.{Question}
 use Rattle.question_lines.specs.declared.Question.TheVariants.{BySeq, ByTime}
 
-abbrev pub notTheForm : List ℕ
-notTheForm = 36 ∷ []
+abbrev pub not_the_form : List ℕ
+not_the_form = 36 ∷ []
 
 -- these very words: the letters in this case, and no space more
 abbrev pub words : String → Reader (Unit {0})
-words w = word notTheForm (ascii w)
+words w = word not_the_form (ascii w)
 
 -- one or more digits, whose number is `most` at most; zeros may come first
 abbrev pub number : ℕ → Reader ℕ
 number most = do
-  n ← digits notTheForm
-  require (leb n most) notTheForm
+  n ← digits not_the_form
+  require (leb n most) not_the_form
   give n
 
 -- a sequence number, below 2^64
-abbrev pub seqNumber : Reader Seq
-seqNumber = do
+abbrev pub seq_number : Reader Seq
+seq_number = do
   n ← number (2 ^ 64 - 1)
   give (record { 0 = n })
 
@@ -41,13 +41,13 @@ negative = do
   give (record { 0 = neg_ℤ (pos n) })
 
 -- a second with none, below 2^63: there is no plus
-abbrev pub notNegative : Reader Second
-notNegative = do
+abbrev pub not_negative : Reader Second
+not_negative = do
   n ← number (2 ^ 63 - 1)
   give (record { 0 = pos n })
 
 abbrev pub second : Reader Second
-second = or_else negative notNegative
+second = or_else negative not_negative
 
 -- `up` or `down`
 abbrev pub up : Reader FindOption
@@ -71,16 +71,16 @@ ending = do
   words "\n"
   give option
 
-unfoldable pub bySeq : Reader Question
-bySeq = do
+unfoldable pub by_seq : Reader Question
+by_seq = do
   words "seq"
   words " "
-  seq ← seqNumber
+  seq ← seq_number
   option ← ending
   give (BySeq seq option)
 
-unfoldable pub byTime : Reader Question
-byTime = do
+unfoldable pub by_time : Reader Question
+by_time = do
   words "time"
   words " "
   ts ← second
@@ -88,4 +88,4 @@ byTime = do
   give (ByTime ts option)
 
 unfoldable pub question : Reader Question
-question = or_else bySeq byTime
+question = or_else by_seq by_time

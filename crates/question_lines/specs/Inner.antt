@@ -12,36 +12,36 @@ use Rattle.question_lines.specs.declared.steps.SecondRead.{SecondRead}
 use Rattle.question_lines.specs.declared.steps.SecondRead.TheVariants as sec
 use Rattle.question_lines.specs.declared.steps.Ending.{Ending}
 use Rattle.question_lines.specs.declared.steps.Ending.TheVariants as fin
-use Rattle.question_lines.specs.Grammar.{notTheForm, words, number, ending}
+use Rattle.question_lines.specs.Grammar.{not_the_form, words, number, ending}
 use Rattle.question_lines.specs.Line.{ReadTo}
 
 -- a number of `most` at most, with the place after it; or the refusal
 abbrev pub NumberAt : List ℕ → ℕ → ℕ → NumberRead → Type 0
 NumberAt s at most (num.At n end) = (n ≤ most) × ReadTo s (number most (drop at s)) n end
-NumberAt s at most num.Nothing = number most (drop at s) ≡ refused notTheForm
+NumberAt s at most num.Nothing = number most (drop at s) ≡ refused not_the_form
 
 -- a second, and a direction, alike
 abbrev pub SecondAt : List ℕ → Read Second → SecondRead → Type 0
 SecondAt s m (sec.At ts end) = ReadTo s m ts end
-SecondAt s m sec.Nothing = m ≡ refused notTheForm
+SecondAt s m sec.Nothing = m ≡ refused not_the_form
 
 abbrev pub EndingAt : List ℕ → Read FindOption → Ending → Type 0
 EndingAt s m (fin.At option end) = ReadTo s m option end
-EndingAt s m fin.Nothing = m ≡ refused notTheForm
+EndingAt s m fin.Nothing = m ≡ refused not_the_form
 
 -- LF, after a direction
-abbrev pub lineEnd : FindOption → Reader FindOption
-lineEnd option = do
+abbrev pub line_end : FindOption → Reader FindOption
+line_end option = do
   words "\n"
   give option
 
 -- a line from after its number on
-abbrev pub seqEnded : Seq → Reader Question
-seqEnded seq = do
+abbrev pub seq_ended : Seq → Reader Question
+seq_ended seq = do
   option ← ending
   give (BySeq seq option)
 
-abbrev pub timeEnded : Second → Reader Question
-timeEnded ts = do
+abbrev pub time_ended : Second → Reader Question
+time_ended ts = do
   option ← ending
   give (ByTime ts option)

@@ -3,7 +3,7 @@ use Rattle.std.specs.Prelude.{ℕ, ◌^◌, ◌<◌, ◌≡◌, List, ◌++◌}
 use Rattle.std.specs.Int.{w64}
 use Rattle.std.proofs.Common.{SFits}
 use Rattle.text.specs.Ascii.{ascii}
-use Rattle.text.specs.Text.{decimal, signedDecimal}
+use Rattle.text.specs.Text.{decimal, signed_decimal}
 use Rattle.lookup.specs.declared.FindOption.{FindOption}
 use Rattle.lookup.specs.declared.FindOption.TheVariants.{RoundUp, RoundDown}
 use Rattle.gorilla.specs.Parser.{read}
@@ -13,14 +13,14 @@ use Rattle.question_lines.specs.declared.LineRead.{LineRead}
 use Rattle.question_lines.specs.Grammar.{question}
 use Rattle.question_lines.specs.Line.{LineAt}
 
-abbrev pub endingOf : FindOption → List ℕ
-endingOf RoundUp = ascii " up\n"
-endingOf RoundDown = ascii " down\n"
+abbrev pub ending_of : FindOption → List ℕ
+ending_of RoundUp = ascii " up\n"
+ending_of RoundDown = ascii " down\n"
 
 -- the line of a question, its number written as a listing writes it
 abbrev pub line_of : Question → List ℕ
-line_of (BySeq seq option) = ascii "seq " ++ decimal seq.0 ++ endingOf option
-line_of (ByTime ts option) = ascii "time " ++ signedDecimal ts.0 ++ endingOf option
+line_of (BySeq seq option) = ascii "seq " ++ decimal seq.0 ++ ending_of option
+line_of (ByTime ts option) = ascii "time " ++ signed_decimal ts.0 ++ ending_of option
 
 -- its number is one of 64 bits, as every `Seq` and every `Second` of the code is
 abbrev pub Numbered : Question → Type 0
@@ -29,6 +29,6 @@ Numbered (ByTime ts option) = SFits w64 ts.0
 
 pub record QuestionLines : Type 0 where
   -- each question has a line: it reads back, and whatever bytes follow it are left as they are
-  pub reads-back : (q : Question) → Numbered q → (rest : List ℕ) → question (line_of q ++ rest) ≡ read q rest
+  pub reads_back : (q : Question) → Numbered q → (rest : List ℕ) → question (line_of q ++ rest) ≡ read q rest
   -- no second answer fits what `question_of` promises
   pub one_line : (s : List ℕ) (a b : LineRead) → LineAt s (question s) a → LineAt s (question s) b → a ≡ b

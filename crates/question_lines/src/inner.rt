@@ -1,8 +1,8 @@
 // A line taken apart by the grammar, for our own crates. What follows its LF is not looked at.
 ghost use Rattle.std.specs.Prelude.{◌≤◌, length, drop};
-ghost use Rattle.question_lines.specs.Grammar.{bySeq, byTime, question};
+ghost use Rattle.question_lines.specs.Grammar.{by_seq, by_time, question};
 ghost use Rattle.question_lines.specs.Line.{LineAt};
-ghost use Rattle.question_lines.specs.Inner.{seqEnded, timeEnded};
+ghost use Rattle.question_lines.specs.Inner.{seq_ended, time_ended};
 
 use crate::steps::{Ending, NumberRead, SecondRead, ending_at, number_at, second_at};
 use crate::{LineRead, Question};
@@ -12,7 +12,7 @@ use tracker::{Second, Seq};
 // A line of a sequence number, from after the number on.
 fn seq_ended(s: &[u8], at: usize, seq: Seq) -> LineRead
     requires { at ≤ length s.now }
-    ensures { LineAt s.now (seqEnded seq (drop at s.now)) result }
+    ensures { LineAt s.now (seq_ended seq (drop at s.now)) result }
 {
     match ending_at(s, at) {
         Ending::At(find_opt, end) => LineRead::At(Question::BySeq(seq, find_opt), end),
@@ -23,7 +23,7 @@ fn seq_ended(s: &[u8], at: usize, seq: Seq) -> LineRead
 // A line of a second, from after the number on.
 fn time_ended(s: &[u8], at: usize, ts: Second) -> LineRead
     requires { at ≤ length s.now }
-    ensures { LineAt s.now (timeEnded ts (drop at s.now)) result }
+    ensures { LineAt s.now (time_ended ts (drop at s.now)) result }
 {
     match ending_at(s, at) {
         Ending::At(find_opt, end) => LineRead::At(Question::ByTime(ts, find_opt), end),
@@ -33,7 +33,7 @@ fn time_ended(s: &[u8], at: usize, ts: Second) -> LineRead
 
 // A line that asks by sequence number.
 fn by_seq(s: &[u8]) -> LineRead
-    ensures { LineAt s.now (bySeq s.now) result }
+    ensures { LineAt s.now (by_seq s.now) result }
 {
     if !word_at(s, 0, b"seq ") {
         return LineRead::NotTheForm;
@@ -46,7 +46,7 @@ fn by_seq(s: &[u8]) -> LineRead
 
 // A line that asks by second.
 fn by_time(s: &[u8]) -> LineRead
-    ensures { LineAt s.now (byTime s.now) result }
+    ensures { LineAt s.now (by_time s.now) result }
 {
     if !word_at(s, 0, b"time ") {
         return LineRead::NotTheForm;

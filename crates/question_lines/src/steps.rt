@@ -1,7 +1,7 @@
 // The parts of a line at a place of the bytes: a number that fits its key, and what follows it.
 ghost use Rattle.std.specs.Prelude.{◌≤◌, ◌^◌, ◌≡◌, pos, neg_ℤ, length, drop};
-ghost use Rattle.question_lines.specs.Grammar.{notNegative, negative, second, ending};
-ghost use Rattle.question_lines.specs.Inner.{NumberAt, SecondAt, EndingAt, lineEnd};
+ghost use Rattle.question_lines.specs.Grammar.{not_negative, negative, second, ending};
+ghost use Rattle.question_lines.specs.Inner.{NumberAt, SecondAt, EndingAt, line_end};
 
 use lookup::FindOption;
 use text_reader::inner::{digits_at, word_at};
@@ -73,7 +73,7 @@ fn negative_at(s: &[u8], at: usize) -> SecondRead
 // A second with none.
 fn not_negative_at(s: &[u8], at: usize) -> SecondRead
     requires { at ≤ length s.now }
-    ensures { SecondAt s.now (notNegative (drop at s.now)) result }
+    ensures { SecondAt s.now (not_negative (drop at s.now)) result }
 {
     match number_at(s, at, 9223372036854775807) {
         NumberRead::At(n, end) => SecondRead::At(Second(n as i64), end),
@@ -95,7 +95,7 @@ pub fn second_at(s: &[u8], at: usize) -> SecondRead
 // LF, after a direction.
 fn line_end(s: &[u8], at: usize, find_opt: FindOption) -> Ending
     requires { at ≤ length s.now }
-    ensures { EndingAt s.now (lineEnd find_opt (drop at s.now)) result }
+    ensures { EndingAt s.now (line_end find_opt (drop at s.now)) result }
 {
     if word_at(s, at, b"\n") {
         return Ending::At(find_opt, at + 1);

@@ -6,18 +6,18 @@ use Rattle.told.specs.Told.{Told, gave, refused}
 use Rattle.tracker.specs.declared.Refusal.{Refusal}
 use Rattle.tracker.specs.Refusal.{told}
 use Rattle.tracker.specs.declared.Refusal.TheVariants.{Disagrees, SequenceDrops, SecondDrops, SecondOutside, Settings, OfferedOutside, OfferedDrops, TotalsFull}
-use Rattle.tracker.proofs.Unique.{undone, refusalOf, number}
-use Rattle.questions.specs.Asked.{toldAsked}
+use Rattle.tracker.proofs.Unique.{undone, refusal_of, number}
+use Rattle.questions.specs.Asked.{told_asked}
 use Rattle.questions.specs.declared.Asked.{Asked}
 use Rattle.questions.specs.declared.Asked.TheVariants.{Done, TooMany, LengthsDiffer, Refused}
 
 asked_of : Told (Unit {0}) → Asked
 asked_of (gave _) = Done
-asked_of (refused l) = cond (eqb (number l) 35) TooMany (cond (eqb (number l) 18) LengthsDiffer (Refused (refusalOf l)))
+asked_of (refused l) = cond (eqb (number l) 35) TooMany (cond (eqb (number l) 18) LengthsDiffer (Refused (refusal_of l)))
 
-pub one-asked : (a b : Asked) → toldAsked a ≡ toldAsked b → a ≡ b
+pub one_asked : (a b : Asked) → told_asked a ≡ told_asked b → a ≡ b
 unfolding asked_of
-one-asked = undone toldAsked asked_of (λ a. back a)
+one_asked = undone told_asked asked_of (λ a. back a)
   where
     of-table : (r : Refusal) → asked_of (refused (told r)) ≡ Refused r
     of-table (SequenceDrops i) = refl
@@ -29,7 +29,7 @@ one-asked = undone toldAsked asked_of (λ a. back a)
     of-table OfferedDrops = refl
     of-table TotalsFull = refl
 
-    back : (a : Asked) → asked_of (toldAsked a) ≡ a
+    back : (a : Asked) → asked_of (told_asked a) ≡ a
     back Done = refl
     back TooMany = refl
     back LengthsDiffer = refl

@@ -5,11 +5,11 @@ use Rattle.tracker.specs.Refusal.{told}
 use Rattle.questions.specs.declared.Asked.{Asked}
 use Rattle.questions.specs.declared.Asked.TheVariants.{Done, TooMany, LengthsDiffer, Refused}
 
-abbrev pub toldAsked : Asked → Told (Unit {0})
-toldAsked Done = gave tt
-toldAsked TooMany = refused (35 ∷ [])
-toldAsked LengthsDiffer = refused (18 ∷ [])
-toldAsked (Refused r) = refused (told r)
+abbrev pub told_asked : Asked → Told (Unit {0})
+told_asked Done = gave tt
+told_asked TooMany = refused (35 ∷ [])
+told_asked LengthsDiffer = refused (18 ∷ [])
+told_asked (Refused r) = refused (told r)
 
 -- not refused, `done` holds; refused, `same` does
 abbrev pub IfDone : Told (Unit {0}) → Type 0 → Type 0 → Type 0

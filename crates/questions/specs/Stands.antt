@@ -6,10 +6,10 @@ use Rattle.lookup.specs.Find.{Partner, partner, nothing}
 use Rattle.questions.specs.declared.TsAnswer.{TsAnswer}
 use Rattle.questions.specs.declared.SeqAnswer.{SeqAnswer}
 
-abbrev pub tsStands : Partner Second → TsAnswer
-tsStands (partner s) = record { found = 1; second = s }
-tsStands nothing = record { found = 0; second = record { 0 = pos 0 } }
+abbrev pub ts_stands : Partner Second → TsAnswer
+ts_stands (partner s) = record { found = 1; second = s }
+ts_stands nothing = record { found = 0; second = record { 0 = pos 0 } }
 
-abbrev pub seqStands : Partner Seq → SeqAnswer
-seqStands (partner q) = record { found = 1; seq = q }
-seqStands nothing = record { found = 0; seq = record { 0 = 0 } }
+abbrev pub seq_stands : Partner Seq → SeqAnswer
+seq_stands (partner q) = record { found = 1; seq = q }
+seq_stands nothing = record { found = 0; seq = record { 0 = 0 } }

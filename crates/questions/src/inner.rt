@@ -1,10 +1,10 @@
 // For our own crates: one question to a table that is checked, and what is told.
 ghost use Rattle.std.specs.Prelude.{◌≡◌, cond};
-ghost use Rattle.tracker.specs.Refusal.{toldCheck};
-ghost use Rattle.tracker.specs.Table.{checkOf};
-ghost use Rattle.questions.specs.Stands.{tsStands, seqStands};
-ghost use Rattle.questions.specs.Asked.{toldAsked};
-ghost use Rattle.questions.specs.Inner.{GoodPairs, tsPartner, seqPartner};
+ghost use Rattle.tracker.specs.Refusal.{told_check};
+ghost use Rattle.tracker.specs.Table.{check_of};
+ghost use Rattle.questions.specs.Stands.{ts_stands, seq_stands};
+ghost use Rattle.questions.specs.Asked.{told_asked};
+ghost use Rattle.questions.specs.Inner.{GoodPairs, ts_partner, seq_partner};
 
 use crate::{Asked, SeqAnswer, TsAnswer};
 use lookup::FindOption;
@@ -13,7 +13,7 @@ use tracker::{Checked, Second, Seq, SequenceTracker, check};
 // The answer to one question by sequence, among the first n pairs of a good table.
 pub fn ts_answer(seqs: &[u64], secs: &[i64], n: usize, seq: Seq, find_opt: FindOption) -> TsAnswer
     requires { GoodPairs seqs.now secs.now n }
-    ensures { result ≡ tsStands (tsPartner seqs.now secs.now n seq find_opt) }
+    ensures { result ≡ ts_stands (ts_partner seqs.now secs.now n seq find_opt) }
 {
     let at = lookup::inner::seqs::place(seqs, n, seq, find_opt);
     if at < n {
@@ -39,7 +39,7 @@ pub fn seq_answer(
     find_opt: FindOption,
 ) -> SeqAnswer
     requires { GoodPairs seqs.now secs.now n }
-    ensures { result ≡ seqStands (seqPartner seqs.now secs.now n ts find_opt) }
+    ensures { result ≡ seq_stands (seq_partner seqs.now secs.now n ts find_opt) }
 {
     let at = lookup::inner::secs::place(secs, n, ts, find_opt);
     if at < n {
@@ -58,7 +58,7 @@ pub fn seq_answer(
 
 // What is told of a refusal of the call's own and of the check of the table: the own one comes first.
 fn first_of(own: bool, why: Asked, checked: Checked) -> Asked
-    ensures { toldAsked result ≡ cond own (toldAsked why) (toldCheck checked) }
+    ensures { told_asked result ≡ cond own (told_asked why) (told_check checked) }
 {
     match checked {
         Checked::Good => { if own { why } else { Asked::Done } }
@@ -68,7 +68,7 @@ fn first_of(own: bool, why: Asked, checked: Checked) -> Asked
 
 // The one check of the table, for all questions of a call. It is made before the test of the own refusal is heard, so that both come to one place.
 pub fn judged(table: SequenceTracker, seqs: &[u64], secs: &[i64], own: bool, why: Asked) -> Asked
-    ensures { toldAsked result ≡ cond own (toldAsked why) (checkOf table seqs.now secs.now) }
+    ensures { told_asked result ≡ cond own (told_asked why) (check_of table seqs.now secs.now) }
 {
     let checked = check(table, seqs, secs);
     first_of(own, why, checked)

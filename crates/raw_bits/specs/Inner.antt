@@ -16,11 +16,11 @@ unfoldable pub put_bit : List ℕ → ℕ → ℕ → List ℕ
 put_bit s p b = set s (p / 8) (get_or s (p / 8) 0 / 2 ^ (8 - p % 8) * 2 ^ (8 - p % 8) + b * 2 ^ (7 - p % 8))
 
 -- the n low bits of v from p on, one after the other
-unfoldable pub putBits : List ℕ → ℕ → ℕ → ℕ → List ℕ
-putBits s p v zero = s
-putBits s p v (suc n) = put_bit (putBits s p (v / 2) n) (p + n) (v % 2)
+unfoldable pub put_bits : List ℕ → ℕ → ℕ → ℕ → List ℕ
+put_bits s p v zero = s
+put_bits s p v (suc n) = put_bit (put_bits s p (v / 2) n) (p + n) (v % 2)
 
 -- bits put one after the other, from bit p of s on
-unfoldable pub putList : List ℕ → ℕ → List ℕ → List ℕ
-putList s p [] = s
-putList s p (b ∷ bs) = putList (put_bit s p b) (p + 1) bs
+unfoldable pub put_list : List ℕ → ℕ → List ℕ → List ℕ
+put_list s p [] = s
+put_list s p (b ∷ bs) = put_list (put_bit s p b) (p + 1) bs

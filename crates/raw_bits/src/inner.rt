@@ -1,6 +1,6 @@
 // The steps. All but `wide` and `least` ask what their caller has tested.
 ghost use Rattle.std.specs.Prelude.{◌≡◌, ◌+◌, ◌*◌, ◌-◌, ◌/◌, ◌%◌, ◌^◌, ◌≤◌, ◌<◌, min, length};
-ghost use Rattle.raw_bits.specs.Inner.{bits_at, putBits};
+ghost use Rattle.raw_bits.specs.Inner.{bits_at, put_bits};
 
 pub fn wide(x: u8) -> u64
     ensures { result ≡ x }
@@ -77,7 +77,7 @@ fn merge(x: u8, bit: u8, t: u8, chunk: u64) -> u8
 // The low `width` bits of a value: the first byte, the whole bytes, the last byte.
 pub fn put_bits(buf: &mut [u8], from: usize, first: u8, value: u64, width: u8)
     requires { (first < 8) × (width ≤ 64) × (from * 8 + first + width ≤ length buf.old * 8) }
-    ensures { buf.new ≡ putBits buf.old (from * 8 + first) value width }
+    ensures { buf.new ≡ put_bits buf.old (from * 8 + first) value width }
 {
     let t = least(8 - first, width);
     if t == 0 {

@@ -7,42 +7,42 @@ use borrow.Author.Tests.{ltb-false}
 use lib.IntN.{pos}
 use lib.ListN.{length, get_or}
 use Rattle.order.specs.First.{first}
-use Rattle.order.specs.Order.{secOutside}
+use Rattle.order.specs.Order.{sec_outside}
 use Rattle.order.proofs.First.{first_out}
 use Rattle.gorilla.specs.Parser.{Read, read, refused}
 use Rattle.gorilla.specs.Reading.{Pairs}
-use Rattle.date_writer.proofs.Texts.{dated-text}
-use Rattle.report.specs.Lines.{entriesText, refusedText}
-use Rattle.report.specs.Listing.{tooLong, inputRead, readText, listingOf}
-use Rattle.report.specs.Dated.{someOutside, DatedPairs, DatedText, DatedListing}
-use Rattle.report.specs.Inner.{thirdOf, read_by, listingBy}
+use Rattle.date_writer.proofs.Texts.{dated_text}
+use Rattle.report.specs.Lines.{entries_text, refused_text}
+use Rattle.report.specs.Listing.{too_long, input_read, read_text, listing_of}
+use Rattle.report.specs.Dated.{some_outside, DatedPairs, DatedText, DatedListing}
+use Rattle.report.specs.Inner.{third_of, read_by, listing_by}
 
-pub with-seconds : (input : List ℕ) → listingBy false input ≡ listingOf input
-unfolding listingBy listingOf
-with-seconds input = rw (same (inputRead input))
+pub with_seconds : (input : List ℕ) → listing_by false input ≡ listing_of input
+unfolding listing_by listing_of
+with_seconds input = rw (same (input_read input))
   where
-    same : (m : Read Pairs) → read_by false m ≡ readText m
+    same : (m : Read Pairs) → read_by false m ≡ read_text m
     same (read p left) = refl
     same (refused told) = refl
 
 -- a text told by a test, which is the text by that test
 abbrev Told : Bool → (List ℕ → Type 0) → ℕ → List ℕ → Type 0
-Told b Else number text = cond b (text ≡ refusedText number) (Else text)
+Told b Else number text = cond b (text ≡ refused_text number) (Else text)
 
-by-test : (b : Bool) (Else : List ℕ → Type 0) (number : ℕ) (text : List ℕ) → (b ≡ false → Else text) → Told b Else number (cond b (refusedText number) text)
-by-test true Else number text h = refl
-by-test false Else number text h = h refl
+by_test : (b : Bool) (Else : List ℕ → Type 0) (number : ℕ) (text : List ℕ) → (b ≡ false → Else text) → Told b Else number (cond b (refused_text number) text)
+by_test true Else number text h = refl
+by_test false Else number text h = h refl
 
-dated-pairs : (p : Pairs) → someOutside p.secs (length p.secs) ≡ false → DatedPairs p (entriesText (thirdOf true) p.seqs p.secs (length p.secs))
+dated-pairs : (p : Pairs) → some_outside p.secs (length p.secs) ≡ false → DatedPairs p (entries_text (third_of true) p.seqs p.secs (length p.secs))
 dated-pairs p e =
     let n = length p.secs in
-    let inside = first_out (secOutside p.secs) n (ltb-false (first (secOutside p.secs) n) n e) in
-    (thirdOf true, λ i l. dated-text (get_or p.secs i (pos 0)) (inside i l), refl)
+    let inside = first_out (sec_outside p.secs) n (ltb-false (first (sec_outside p.secs) n) n e) in
+    (third_of true, λ i l. dated_text (get_or p.secs i (pos 0)) (inside i l), refl)
 
 dated-read : (m : Read Pairs) → DatedText m (read_by true m)
-dated-read (read p left) = by-test (someOutside p.secs (length p.secs)) (DatedPairs p) 27 _ (dated-pairs p)
+dated-read (read p left) = by_test (some_outside p.secs (length p.secs)) (DatedPairs p) 27 _ (dated-pairs p)
 dated-read (refused told) = refl
 
-pub with-dates : (input : List ℕ) → DatedListing input (listingBy true input)
-unfolding listingBy DatedListing
-with-dates input = by-test (tooLong input) (DatedText (inputRead input)) 22 _ (λ e. dated-read (inputRead input))
+pub with-dates : (input : List ℕ) → DatedListing input (listing_by true input)
+unfolding listing_by DatedListing
+with-dates input = by_test (too_long input) (DatedText (input_read input)) 22 _ (λ e. dated-read (input_read input))

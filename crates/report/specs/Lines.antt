@@ -13,9 +13,9 @@ lines third seqs secs zero = []
 lines third seqs secs (suc n) = lines third seqs secs n ++ line third n (get_or seqs n 0) (get_or secs n (pos 0))
 
 -- `entries` and the count n, then a line for each of the first n pairs
-unfoldable pub entriesText : (ℤ → List ℕ) → List ℕ → List ℤ → ℕ → List ℕ
-entriesText third seqs secs n = word_line (ascii "entries ") n ++ lines third seqs secs n
+unfoldable pub entries_text : (ℤ → List ℕ) → List ℕ → List ℤ → ℕ → List ℕ
+entries_text third seqs secs n = word_line (ascii "entries ") n ++ lines third seqs secs n
 
 -- `refused` and the number n
-unfoldable pub refusedText : ℕ → List ℕ
-refusedText n = word_line (ascii "refused ") n
+unfoldable pub refused_text : ℕ → List ℕ
+refused_text n = word_line (ascii "refused ") n

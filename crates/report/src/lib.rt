@@ -1,9 +1,9 @@
 // The text that the programs `listing` and `listing_dates` print for the bytes that they read: the pairs of an image, or the number by which
 // they are refused.
 ghost use Rattle.text.specs.Text.{Stands};
-ghost use Rattle.report.specs.Listing.{listingOf};
+ghost use Rattle.report.specs.Listing.{listing_of};
 ghost use Rattle.report.specs.Dated.{ListsDates};
-ghost use Rattle.report.specs.Inner.{answerText, listingBy, Held};
+ghost use Rattle.report.specs.Inner.{answer_text, listing_by, Held};
 
 pub mod inner; // inner.rt: what our own crates call
 mod lines; // lines.rt: the lines of a listing
@@ -31,7 +31,7 @@ fn put_answer(
     dates: bool,
 ) -> usize
     requires { Held answer seqs.now secs.now }
-    ensures { Stands (answerText dates answer seqs.now secs.now) out.old result out.new }
+    ensures { Stands (answer_text dates answer seqs.now secs.now) out.old result out.new }
 {
     match answer {
         Decoded::Count(count) => put_pairs(out, seqs, secs, count, dates),
@@ -41,7 +41,7 @@ fn put_answer(
 
 // Both listings: they differ only in the third field, and in 27.
 fn put_listing(input: &[u8], out: &mut [u8; TEXT_ROOM], dates: bool) -> usize
-    ensures { Stands (listingBy dates input.now) out.old result out.new }
+    ensures { Stands (listing_by dates input.now) out.old result out.new }
 {
     if input.len() > MOST_INPUT {
         return put_refused(out, 22);
@@ -54,7 +54,7 @@ fn put_listing(input: &[u8], out: &mut [u8; TEXT_ROOM], dates: bool) -> usize
 
 // Puts the text for the bytes of `input` at the start of `out`, and answers its length.
 pub fn listing(input: &[u8], out: &mut [u8; TEXT_ROOM]) -> usize
-    ensures { Stands (listingOf input.now) out.old result out.new }
+    ensures { Stands (listing_of input.now) out.old result out.new }
 {
     put_listing(input, out, false)
 }

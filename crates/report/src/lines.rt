@@ -2,8 +2,8 @@
 ghost use Rattle.std.specs.Prelude.{◌+◌, ◌*◌, ◌≤◌, ◌<◌, ◌≡◌, ◌&&◌, false, length};
 ghost use Rattle.limits.specs.Domain.{outside};
 ghost use Rattle.text.specs.Inner.{Put};
-ghost use Rattle.report.specs.Lines.{line, lines, entriesText, refusedText};
-ghost use Rattle.report.specs.Inner.{thirdOf, lacksDate, HaveDates, pairsText};
+ghost use Rattle.report.specs.Lines.{line, lines, entries_text, refused_text};
+ghost use Rattle.report.specs.Inner.{third_of, lacks_date, HaveDates, pairs_text};
 
 use date_writer::inner::put_date;
 use order::inner::first_outside;
@@ -13,7 +13,7 @@ use text::inner::{put_byte, put_decimal, put_signed, put_word_line};
 fn put_third(out: &mut [u8], at: usize, sec: i64, dates: bool) -> usize
     requires sec_value { dates && outside sec ≡ false }
     requires at_in_bounds { at + 21 ≤ length out.old }
-    ensures { Put out.old at (thirdOf dates sec) out.new result }
+    ensures { Put out.old at (third_of dates sec) out.new result }
 {
     if dates {
         return put_date(out, at, sec);
@@ -26,7 +26,7 @@ fn put_third(out: &mut [u8], at: usize, sec: i64, dates: bool) -> usize
 fn put_line(out: &mut [u8], at: usize, i: usize, seq: u64, sec: i64, dates: bool) -> usize
     requires sec_value { dates && outside sec ≡ false }
     requires at_in_bounds { at + 64 ≤ length out.old }
-    ensures { Put out.old at (line (thirdOf dates) i seq sec) out.new result }
+    ensures { Put out.old at (line (third_of dates) i seq sec) out.new result }
 {
     let a = put_decimal(out, at, i as u64);
     let b = put_byte(out, a, b' ');
@@ -46,7 +46,7 @@ fn put_lines(
 ) -> usize
     requires count_in_bounds { (count ≤ length seqs.now) × (count ≤ length secs.now) × HaveDates dates secs.now count }
     requires count_in_bounds_2 { at + count * 64 ≤ length out.old }
-    ensures { Put out.old at (lines (thirdOf dates) seqs.now secs.now count) out.new result }
+    ensures { Put out.old at (lines (third_of dates) seqs.now secs.now count) out.new result }
 {
     let mut p = at;
     let mut i = 0;
@@ -60,7 +60,7 @@ fn put_lines(
 fn put_entries(out: &mut [u8], seqs: &[u64], secs: &[i64], count: usize, dates: bool) -> usize
     requires count_in_bounds { (count ≤ length seqs.now) × (count ≤ length secs.now) × HaveDates dates secs.now count }
     requires count_in_bounds_2 { count * 64 + 64 ≤ length out.old }
-    ensures { Put out.old 0 (entriesText (thirdOf dates) seqs.now secs.now count) out.new result }
+    ensures { Put out.old 0 (entries_text (third_of dates) seqs.now secs.now count) out.new result }
 {
     let p = put_word_line(out, 0, b"entries ", count as u64);
     put_lines(out, p, seqs, secs, count, dates)
@@ -69,7 +69,7 @@ fn put_entries(out: &mut [u8], seqs: &[u64], secs: &[i64], count: usize, dates: 
 // Whether dates are asked for and a second among the first `count` has none.
 fn lacks_date(secs: &[i64], count: usize, dates: bool) -> bool
     requires { count ≤ length secs.now }
-    ensures { result ≡ lacksDate dates secs.now count }
+    ensures { result ≡ lacks_date dates secs.now count }
 {
     dates && first_outside(secs, count) < count
 }
@@ -78,7 +78,7 @@ fn lacks_date(secs: &[i64], count: usize, dates: bool) -> bool
 pub fn put_pairs(out: &mut [u8], seqs: &[u64], secs: &[i64], count: usize, dates: bool) -> usize
     requires count_in_bounds { (count ≤ length seqs.now) × (count ≤ length secs.now) }
     requires count_in_bounds_2 { count * 64 + 64 ≤ length out.old }
-    ensures { Put out.old 0 (pairsText dates seqs.now secs.now count) out.new result }
+    ensures { Put out.old 0 (pairs_text dates seqs.now secs.now count) out.new result }
 {
     if lacks_date(secs, count, dates) {
         return put_refused(out, 27);
@@ -89,7 +89,7 @@ pub fn put_pairs(out: &mut [u8], seqs: &[u64], secs: &[i64], count: usize, dates
 // The text of a refusal.
 pub fn put_refused(out: &mut [u8], number: u64) -> usize
     requires { 64 ≤ length out.old }
-    ensures { Put out.old 0 (refusedText number) out.new result }
+    ensures { Put out.old 0 (refused_text number) out.new result }
 {
     put_word_line(out, 0, b"refused ", number)
 }

@@ -9,33 +9,33 @@ use lib.Dec.{leb, ltb, eqb}
 use lib.ListN.{length, get_or, take, drop, length-append}
 use lib.Seq.{take_at, take_all}
 use lib.IntN.{ℤ, pos}
-use Rattle.told.specs.Told.{Told, gave, refused, ifGood}
+use Rattle.told.specs.Told.{Told, gave, refused, if_good}
 use Rattle.told.specs.Over.{over, filled}
 use Rattle.gorilla.specs.Parser.{Read, read}
 use Rattle.gorilla.specs.Parser as parser
-use Rattle.gorilla.specs.Reading.{Pairs, pairsRead}
-use Rattle.gorilla.proofs.Counts.{image-counts}
+use Rattle.gorilla.specs.Reading.{Pairs, pairs_read}
+use Rattle.gorilla.proofs.Counts.{image_counts}
 use Rattle.order.proofs.Bools.{neither}
-use Rattle.limits.specs.Settings.{badSettings}
-use Rattle.fresh.specs.Fresh.{defaultCapacity, freshTable}
+use Rattle.limits.specs.Settings.{bad_settings}
+use Rattle.fresh.specs.Fresh.{default_capacity, fresh_table}
 use Rattle.tracker.specs.declared.SequenceTracker.{SequenceTracker}
 use Rattle.tracker.specs.declared.LastRecorded.{LastRecorded}
 use Rattle.tracker.specs.declared.LastRecorded.TheVariants.{Never, At}
 use Rattle.tracker.proofs.Kept.{kept_at, pairs-kept}
-use Rattle.decoder.specs.Decode.{listed, count_of, decodeRule}
+use Rattle.decoder.specs.Decode.{listed, count_of, decode_rule}
 use Rattle.decoder.proofs.Stored as stored
 use Rattle.decoder.specs.Decode as decode
 use Rattle.settling.specs.Settle.{last_of, settled_of}
-use Rattle.restoring.specs.Restore.{readTable, judged, tooShort, restoreAt}
+use Rattle.restoring.specs.Restore.{read_table, judged, too_short, restore_at}
 
 -- what was read into arrays xs and ys, of which n places are values now
 pub record Loaded (bytes xs : List ℕ) (ys : List ℤ) (n : ℕ) : Type 0 where
   pub few : n ≤ 8192
-  pub room-seqs : n ≤ length xs
-  pub room-secs : n ≤ length ys
-  pub seqs : take n xs ≡ (pairsRead (readTable bytes)).seqs
-  pub secs : take n ys ≡ (pairsRead (readTable bytes)).secs
-  pub judge : (interval : ℕ) → settled_of interval xs ys n ≡ judged interval (readTable bytes)
+  pub room_seqs : n ≤ length xs
+  pub room_secs : n ≤ length ys
+  pub seqs : take n xs ≡ (pairs_read (read_table bytes)).seqs
+  pub secs : take n ys ≡ (pairs_read (read_table bytes)).secs
+  pub judge : (interval : ℕ) → settled_of interval xs ys n ≡ judged interval (read_table bytes)
 
 -- an array that is filled by what is told stays so for what restore tells
 pub into : {A : Type 0} (w w' : Told SequenceTracker) (x v v' old : List A) → x ≡ filled w v old → v ≡ v' → w' ≡ w → x ≡ filled w' v' old
@@ -60,33 +60,33 @@ module _ (old-seqs : List ℕ) (old-secs : List ℤ) (p : Pairs) (n : ℕ) (a : 
   settled_is interval =
       let s : take n (over p.seqs old-seqs) ≡ take n p.seqs = take_at p.seqs _ n a ∙ sym (take_all n p.seqs (omega arith)) in
       let t : take n (over p.secs old-secs) ≡ take n p.secs = take_at p.secs _ n b ∙ sym (take_all n p.secs (omega arith)) in
-      ap₂ (λ (r : Told (Unit {0})) (l : LastRecorded). ifGood r (gave (freshTable 8192 interval n l)))
+      ap₂ (λ (r : Told (Unit {0})) (l : LastRecorded). if_good r (gave (fresh_table 8192 interval n l)))
       (pairs-kept n (over p.seqs old-seqs) p.seqs (over p.secs old-secs) p.secs s t) (same-last (over p.secs old-secs) p.secs n t)
       ∙ ap (settled_of interval p.seqs p.secs) (sym a)
 
 module _ (bytes S : List ℕ) (T : List ℤ) (hs : length S ≡ 8192) (ht : length T ≡ 8192) where
-  listed-is : listed bytes S T ≡ readTable bytes
+  listed_is : listed bytes S T ≡ read_table bytes
   unfolding listed
-  listed-is = rw (hs, ht)
+  listed_is = rw (hs, ht)
 
-  pub loaded : (n : ℕ) (S' : List ℕ) (T' : List ℤ) → gave n ≡ decodeRule bytes S T → S' ≡ decode.seqsAfter bytes S T → T' ≡ decode.secsAfter bytes S T → Loaded bytes S' T' n
+  pub loaded : (n : ℕ) (S' : List ℕ) (T' : List ℤ) → gave n ≡ decode_rule bytes S T → S' ≡ decode.seqs_after bytes S T → T' ≡ decode.secs_after bytes S T → Loaded bytes S' T' n
   loaded n S' T' g es et =
-      go (readTable bytes) refl (g ∙ ap count_of listed-is) (es ∙ ap (stored.seqsOver S) listed-is) (et ∙ ap (stored.secsOver T) listed-is)
+      go (read_table bytes) refl (g ∙ ap count_of listed_is) (es ∙ ap (stored.seqs_over S) listed_is) (et ∙ ap (stored.secs_over T) listed_is)
     where
-      go : (r : Read Pairs) → readTable bytes ≡ r → gave n ≡ count_of (readTable bytes) → S' ≡ stored.seqsOver S (readTable bytes) → T' ≡ stored.secsOver T (readTable bytes) → Loaded bytes S' T' n
+      go : (r : Read Pairs) → read_table bytes ≡ r → gave n ≡ count_of (read_table bytes) → S' ≡ stored.seqs_over S (read_table bytes) → T' ≡ stored.secs_over T (read_table bytes) → Loaded bytes S' T' n
       go (read p left) e h f k =
-          let counts = image-counts (λ m. leb m 8192) bytes e in
+          let counts = image_counts (λ m. leb m 8192) bytes e in
           let c : ◌≡◌ {A = Told ℕ} (gave n) (gave (length p.secs)) = h ∙ ap count_of e in
           let b : length p.secs ≡ n = sym cc in
           let a : length p.seqs ≡ n = counts.0 ∙ b in
-          let s : S' ≡ over p.seqs S = f ∙ ap (stored.seqsOver S) e in
-          let t : T' ≡ over p.secs T = k ∙ ap (stored.secsOver T) e in
+          let s : S' ≡ over p.seqs S = f ∙ ap (stored.seqs_over S) e in
+          let t : T' ≡ over p.secs T = k ∙ ap (stored.secs_over T) e in
           record {
-            room-seqs = omega (arith, ap length s, length-append p.seqs (drop (length p.seqs) S));
-            room-secs = omega (arith, ap length t, length-append p.secs (drop (length p.secs) T));
+            room_seqs = omega (arith, ap length s, length-append p.seqs (drop (length p.seqs) S));
+            room_secs = omega (arith, ap length t, length-append p.secs (drop (length p.secs) T));
             few = omega (arith, leb-true (length p.secs) 8192 counts.1);
-            seqs = ap (take n) s ∙ take_at p.seqs _ n a ∙ ap (λ (r : Read Pairs). (pairsRead r).seqs) (sym e);
-            secs = ap (take n) t ∙ take_at p.secs _ n b ∙ ap (λ (r : Read Pairs). (pairsRead r).secs) (sym e);
+            seqs = ap (take n) s ∙ take_at p.seqs _ n a ∙ ap (λ (r : Read Pairs). (pairs_read r).seqs) (sym e);
+            secs = ap (take n) t ∙ take_at p.secs _ n b ∙ ap (λ (r : Read Pairs). (pairs_read r).secs) (sym e);
             judge = λ interval. ap₂ (λ (x : List ℕ) (y : List ℤ). settled_of interval x y n) s t ∙ settled_is S T p n a b interval ∙ ap (judged interval) (sym e);
           }
       go (parser.refused l) e h f k =
@@ -95,10 +95,10 @@ module _ (bytes S : List ℕ) (T : List ℤ) (hs : length S ≡ 8192) (ht : leng
           absurd (omega arith)
 
   -- the reader's refusal is restore's
-  pub unread : {what : List ℕ} (interval : ℕ) → refused what ≡ decodeRule bytes S T → refused what ≡ judged interval (readTable bytes)
-  unread {what} interval h = go (readTable bytes) refl (h ∙ ap count_of listed-is)
+  pub unread : {what : List ℕ} (interval : ℕ) → refused what ≡ decode_rule bytes S T → refused what ≡ judged interval (read_table bytes)
+  unread {what} interval h = go (read_table bytes) refl (h ∙ ap count_of listed_is)
     where
-      go : (r : Read Pairs) → readTable bytes ≡ r → refused what ≡ count_of (readTable bytes) → refused what ≡ judged interval (readTable bytes)
+      go : (r : Read Pairs) → read_table bytes ≡ r → refused what ≡ count_of (read_table bytes) → refused what ≡ judged interval (read_table bytes)
       go (read p left) e k =
           let c : ◌≡◌ {A = Told ℕ} (refused what) (gave (length p.secs)) = k ∙ ap count_of e in
           let z : ◌≡◌ {A = ℕ} 0 1 = cc in
@@ -109,18 +109,18 @@ module _ (bytes S : List ℕ) (T : List ℤ) (hs : length S ≡ 8192) (ht : leng
           ap refused d ∙ ap (judged interval) (sym e)
 
 -- ---- the rule, by the interval and by the lengths of the lent arrays
-pub places : (m n : ℕ) → tooShort m n ≡ false → (8192 ≤ m) × (8192 ≤ n)
+pub places : (m n : ℕ) → too_short m n ≡ false → (8192 ≤ m) × (8192 ≤ n)
 places m n h =
     let both = neither (ltb m 8192) (ltb n 8192) h in
     (omega (arith, ltb-false m 8192 both.0), omega (arith, ltb-false n 8192 both.1))
 
 module _ (interval : ℕ) (bytes xs : List ℕ) (ys : List ℤ) where
-  pub bad-interval : badSettings defaultCapacity interval ≡ true → refused (15 ∷ []) ≡ restoreAt interval bytes xs ys
-  bad-interval b = rw b
+  pub bad_interval : bad_settings default_capacity interval ≡ true → refused (15 ∷ []) ≡ restore_at interval bytes xs ys
+  bad_interval b = rw b
 
-  module _ (v : badSettings defaultCapacity interval ≡ false) where
-    pub too_short : tooShort (length xs) (length ys) ≡ true → refused (14 ∷ []) ≡ restoreAt interval bytes xs ys
-    too_short h = rw (v, h)
+  module _ (v : bad_settings default_capacity interval ≡ false) where
+    pub too_short_lem : too_short (length xs) (length ys) ≡ true → refused (14 ∷ []) ≡ restore_at interval bytes xs ys
+    too_short_lem h = rw (v, h)
 
-    pub long : tooShort (length xs) (length ys) ≡ false → judged interval (readTable bytes) ≡ restoreAt interval bytes xs ys
+    pub long : too_short (length xs) (length ys) ≡ false → judged interval (read_table bytes) ≡ restore_at interval bytes xs ys
     long h = rw (v, h)

@@ -1,7 +1,7 @@
 // A table restored from an image, at the default capacity, and at the default interval or at one that is named: an image has neither.
 ghost use Rattle.std.specs.Prelude.{◌≡◌};
-ghost use Rattle.tracker.specs.Refusal.{toldMade};
-ghost use Rattle.restoring.specs.Restore.{toldRestore, tooShort, Restores, RestoresAt};
+ghost use Rattle.tracker.specs.Refusal.{told_made};
+ghost use Rattle.restoring.specs.Restore.{told_restore, too_short, Restores, RestoresAt};
 
 use decoder::Decoded;
 use tracker::{Made, Refusal, SequenceTracker};
@@ -17,7 +17,7 @@ pub enum Restored {
 }
 
 fn of_made(made: Made) -> Restored
-    ensures { toldRestore result ≡ toldMade made }
+    ensures { told_restore result ≡ told_made made }
 {
     match made {
         Made::Table(table) => Restored::Table(table),
@@ -27,7 +27,7 @@ fn of_made(made: Made) -> Restored
 
 // Whether one of two lent arrays has fewer places than the default capacity.
 fn too_short(seqs: usize, secs: usize) -> bool
-    ensures { result ≡ tooShort seqs secs }
+    ensures { result ≡ too_short seqs secs }
 {
     if seqs < 8192 {
         return true;

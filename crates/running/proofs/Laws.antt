@@ -16,8 +16,8 @@ fits-there text old h = omega (arith, h.0, ap length h.1, length-append text (dr
 
 -- ---- what a run leaves, by what `input::failed` and `input::bytes` answered
 module _ (Prints : List ℕ → List ℕ → Type 0) (o : Over) (input old new : List ℕ) (f : Bool) (e : f ≡ o.failed) (l : ReadInto o input) where
-  pub not-read : f ≡ true → new ≡ old → Ran Prints o input old new
-  not-read g h = let k : o.failed ≡ true = sym e ∙ g in (l, rw k h)
+  pub not_read : f ≡ true → new ≡ old → Ran Prints o input old new
+  not_read g h = let k : o.failed ≡ true = sym e ∙ g in (l, rw k h)
 
   pub ran : (n size : ℕ) → f ≡ false → n ≡ o.bytes → (text : List ℕ) × Prints (take n input) text × Stands text old size new → Ran Prints o input old new
   ran n size g b h = let k : o.failed ≡ false = sym e ∙ g in (l, rw (k, ← b) (h.0, h.1, h.2.1))

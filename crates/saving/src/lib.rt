@@ -3,7 +3,7 @@
 // slatedb's `to_bytes` cuts a difference of deltas to 32 bits in silence. `save` writes the same bytes; `save_strict` refuses
 // the tables of which other pairs would be read back.
 ghost use Rattle.std.specs.Prelude.{◌≤◌, length};
-ghost use Rattle.saving.specs.Save.{saveOf, saveStrictOf, Saves};
+ghost use Rattle.saving.specs.Save.{save_of, save_strict_of, Saves};
 ghost use Rattle.saving.specs.Inner.{EncodesFirst};
 
 use encoder::Encoded;
@@ -40,7 +40,7 @@ fn encode_kept(seqs: &[u64], secs: &[i64], n: usize, strict: bool, out: &mut [u8
 
 // The bytes that the Rust writes.
 pub fn save(table: SequenceTracker, seqs: &[u64], secs: &[i64], out: &mut [u8]) -> Saved
-    ensures { Saves saveOf table seqs.now secs.now out.old result out.new }
+    ensures { Saves save_of table seqs.now secs.now out.old result out.new }
 {
     let checked = check(table, seqs, secs);
     match checked {
@@ -54,7 +54,7 @@ pub fn save(table: SequenceTracker, seqs: &[u64], secs: &[i64], out: &mut [u8]) 
 
 // The same bytes, or 20 where other pairs would be read back.
 pub fn save_strict(table: SequenceTracker, seqs: &[u64], secs: &[i64], out: &mut [u8]) -> Saved
-    ensures { Saves saveStrictOf table seqs.now secs.now out.old result out.new }
+    ensures { Saves save_strict_of table seqs.now secs.now out.old result out.new }
 {
     let checked = check(table, seqs, secs);
     match checked {

@@ -7,10 +7,10 @@ use native.Mathlib.Omega.{arith}
 use lib.ListN.{get_or}
 use Rattle.order.specs.Order.{drops}
 use Rattle.order.specs.Inner.{NoneBelow}
-use Rattle.order.proofs.Bools.{other, true-false}
-use Rattle.order.proofs.First.{first-is}
+use Rattle.order.proofs.Bools.{other, true_false}
+use Rattle.order.proofs.First.{first_is}
 use Rattle.order.proofs.Order.{Order, rises}
-use Rattle.search.specs.Keys.{smaller, firstNotBelow}
+use Rattle.search.specs.Keys.{smaller, first_not_below}
 use Rattle.search.specs.Inner.{Bracket}
 
 module _ {K : Type 0} (lt : K → K → Bool) (d : K) (keys : List K) (x : K) (n : ℕ) where
@@ -21,7 +21,7 @@ module _ {K : Type 0} (lt : K → K → Bool) (d : K) (keys : List K) (x : K) (n
     module _ (O : Order lt) (sorted : NoneBelow (drops lt d keys) n) (m : ℕ) (lm : lo ≤ m) (mh : m < hi) where
       -- the keys below x come first
       falls : (i j : ℕ) → i ≤ j → j < n → smaller lt d keys x j ≡ true → smaller lt d keys x i ≡ true
-      falls i j h l e = O.le-lt (get_or keys i d) (get_or keys j d) x (rises lt O d keys n sorted i j h l) e
+      falls i j h l e = O.le_lt (get_or keys i d) (get_or keys j d) x (rises lt O d keys n sorted i j h l) e
 
       pub up : smaller lt d keys x m ≡ true → Bracket lt d keys x n (m + 1) hi
       up e = record { ordered = omega arith; within = b.within; under = λ j l. falls j m (omega arith) (omega arith) e; over = b.over }
@@ -31,13 +31,13 @@ module _ {K : Type 0} (lt : K → K → Bool) (d : K) (keys : List K) (x : K) (n
         ordered = lm;
         within = omega arith;
         under = b.under;
-        over = λ j l l'. other (smaller lt d keys x j) (λ p. true-false (smaller lt d keys x m) (falls m j l l' p) e);
+        over = λ j l l'. other (smaller lt d keys x j) (λ p. true_false (smaller lt d keys x m) (falls m j l l' p) e);
       }
 
-    pub finish : hi ≤ lo → lo ≡ firstNotBelow lt d keys n x
+    pub finish : hi ≤ lo → lo ≡ first_not_below lt d keys n x
     finish h =
         let w : lo ≤ n = omega (arith, b.within) in
-        sym (first-is (λ i. not (smaller lt d keys x i)) n lo w (λ j l. rw (b.under j l)) (λ l. rw (b.over lo h l)))
+        sym (first_is (λ i. not (smaller lt d keys x i)) n lo w (λ j l. rw (b.under j l)) (λ l. rw (b.over lo h l)))
 
     -- a bracket that is wider
     pub widen : (l h : ℕ) → l ≤ lo → hi ≤ h → h ≤ n → Bracket lt d keys x n l h
@@ -58,15 +58,15 @@ module _ {K : Type 0} (lt : K → K → Bool) (d : K) (keys : List K) (x : K) (n
       widen lt d keys x n p (p + k - 1) (down lt d keys x n p (p + (k + k)) b O sorted (p + k - 1) (omega arith) (omega arith) e) p (p + k) (omega arith) (omega arith) (omega arith)
 
   -- of all, by the last of the lower 4,096
-  pub upper-half : 4096 ≤ n → n ≤ 8192 → smaller lt d keys x 4095 ≡ true → Bracket lt d keys x n (n - 4096) (n - 4096 + 4096)
-  upper-half a z e = widen lt d keys x n (4095 + 1) n (up lt d keys x n 0 n (start lt d keys x n) O sorted 4095 (omega arith) (omega arith) e) (n - 4096) (n - 4096 + 4096) (omega arith) (omega arith) (omega arith)
+  pub upper_half : 4096 ≤ n → n ≤ 8192 → smaller lt d keys x 4095 ≡ true → Bracket lt d keys x n (n - 4096) (n - 4096 + 4096)
+  upper_half a z e = widen lt d keys x n (4095 + 1) n (up lt d keys x n 0 n (start lt d keys x n) O sorted 4095 (omega arith) (omega arith) e) (n - 4096) (n - 4096 + 4096) (omega arith) (omega arith) (omega arith)
 
-  pub lower-half : 4096 ≤ n → smaller lt d keys x 4095 ≡ false → Bracket lt d keys x n 0 4096
-  lower-half a e = widen lt d keys x n 0 4095 (down lt d keys x n 0 n (start lt d keys x n) O sorted 4095 (omega arith) (omega arith) e) 0 4096 (omega arith) (omega arith) a
+  pub lower_half : 4096 ≤ n → smaller lt d keys x 4095 ≡ false → Bracket lt d keys x n 0 4096
+  lower_half a e = widen lt d keys x n 0 4095 (down lt d keys x n 0 n (start lt d keys x n) O sorted 4095 (omega arith) (omega arith) e) 0 4096 (omega arith) (omega arith) a
 
   -- of one
-  pub place_after : (p : ℕ) → Bracket lt d keys x n p (p + 1) → smaller lt d keys x p ≡ true → p + 1 ≡ firstNotBelow lt d keys n x
+  pub place_after : (p : ℕ) → Bracket lt d keys x n p (p + 1) → smaller lt d keys x p ≡ true → p + 1 ≡ first_not_below lt d keys n x
   place_after p b e = finish lt d keys x n (p + 1) (p + 1) (up lt d keys x n p (p + 1) b O sorted p (omega arith) (omega arith) e) (omega arith)
 
-  pub place_here : (p : ℕ) → Bracket lt d keys x n p (p + 1) → smaller lt d keys x p ≡ false → p ≡ firstNotBelow lt d keys n x
+  pub place_here : (p : ℕ) → Bracket lt d keys x n p (p + 1) → smaller lt d keys x p ≡ false → p ≡ first_not_below lt d keys n x
   place_here p b e = finish lt d keys x n p p (down lt d keys x n p (p + 1) b O sorted p (omega arith) (omega arith) e) (omega arith)

@@ -12,9 +12,9 @@ module _ {K : Type 0} (lt : K → K → Bool) (d : K) where
   greater keys x i = lt x (get_or keys i d)
 
   -- the position of the first of n keys that is not below x, or n
-  abbrev pub firstNotBelow : List K → ℕ → K → ℕ
-  firstNotBelow keys n x = first (λ i. not (smaller keys x i)) n
+  abbrev pub first_not_below : List K → ℕ → K → ℕ
+  first_not_below keys n x = first (λ i. not (smaller keys x i)) n
 
   -- the position of the last of n keys that is not above x, or n
-  abbrev pub lastNotAbove : List K → ℕ → K → ℕ
-  lastNotAbove keys n x = final (λ i. not (greater keys x i)) n
+  abbrev pub last_not_above : List K → ℕ → K → ℕ
+  last_not_above keys n x = final (λ i. not (greater keys x i)) n

@@ -1,11 +1,11 @@
 -- Pairs that were read, and the table that they become.
 use Rattle.std.specs.Prelude.{ℕ, ◌-◌, cond, List, eqb, get_or, ℤ, pos}
-use Rattle.told.specs.Told.{Told, gave, ifGood}
-use Rattle.tracker.specs.Table.{pairsOf}
+use Rattle.told.specs.Told.{Told, gave, if_good}
+use Rattle.tracker.specs.Table.{pairs_of}
 use Rattle.tracker.specs.declared.SequenceTracker.{SequenceTracker}
 use Rattle.tracker.specs.declared.LastRecorded.{LastRecorded}
 use Rattle.tracker.specs.declared.LastRecorded.TheVariants.{Never, At}
-use Rattle.fresh.specs.Fresh.{defaultCapacity, freshTable}
+use Rattle.fresh.specs.Fresh.{default_capacity, fresh_table}
 
 -- the last of n seconds, none if empty
 abbrev pub last_of : List ℤ → ℕ → LastRecorded
@@ -13,4 +13,4 @@ last_of secs n = cond (eqb n 0) Never (At (record { 0 = get_or secs (n - 1) (pos
 
 -- the first n pairs: 11, 12, 13; else a table of them at the default capacity and this interval, the last recorded second the last second
 abbrev pub settled_of : ℕ → List ℕ → List ℤ → ℕ → Told SequenceTracker
-settled_of interval seqs secs n = ifGood (pairsOf seqs secs n) (gave (freshTable defaultCapacity interval n (last_of secs n)))
+settled_of interval seqs secs n = if_good (pairs_of seqs secs n) (gave (fresh_table default_capacity interval n (last_of secs n)))

@@ -1,9 +1,9 @@
 // Pairs that were read, judged by rules 11 to 13, become a table in the lent arrays.
 ghost use Rattle.std.specs.Prelude.{◌≡◌, ◌≤◌, length, take};
 ghost use Rattle.told.specs.Over.{over};
-ghost use Rattle.tracker.specs.Refusal.{toldCheck};
+ghost use Rattle.tracker.specs.Refusal.{told_check};
 ghost use Rattle.settling.specs.Settle.{last_of};
-ghost use Rattle.settling.specs.Inner.{countIfGood, Settles};
+ghost use Rattle.settling.specs.Inner.{count_if_good, Settles};
 
 use tracker::{Checked, LastRecorded, Made, Second, inner};
 
@@ -42,7 +42,7 @@ fn last_of(secs: &[i64], n: usize) -> LastRecorded
 
 // How many of n pairs are stored: none where their check refuses them.
 fn if_good(checked: Checked, n: usize) -> usize
-    ensures stored { result ≡ countIfGood (toldCheck checked) n }
+    ensures stored { result ≡ count_if_good (told_check checked) n }
     ensures few { result ≤ n }
 {
     match checked {

@@ -4,13 +4,13 @@ use mathlib.Core.Path.{◌≡◌, subst, ◌∙◌}
 use mathlib.Core.List.{List}
 use lib.IntN.{ℤ}
 use Rattle.told.specs.Told.{Told, gave, refused}
-use Rattle.tracker.specs.Table.{checkOf}
+use Rattle.tracker.specs.Table.{check_of}
 use Rattle.tracker.specs.declared.Seq.{Seq}
 use Rattle.tracker.specs.declared.Second.{Second}
 use Rattle.tracker.specs.declared.SequenceTracker.{SequenceTracker}
-use Rattle.lookup.specs.Find.{Partner, findTs, findSeq}
+use Rattle.lookup.specs.Find.{Partner, find_ts, find_seq}
 use Rattle.lookup.specs.declared.FindOption.{FindOption}
-use Rattle.sheets.specs.Sheet.{Sheet, ComesBack, sheetRule, FindsTs16, FindsSeq16}
+use Rattle.sheets.specs.Sheet.{Sheet, ComesBack, sheet_rule, FindsTs16, FindsSeq16}
 use Rattle.sheets.specs.declared.TsSheet.{TsSheet}
 use Rattle.sheets.specs.declared.SeqSheet.{SeqSheet}
 use Rattle.sheets.specs.declared.TsSheetBack.{TsSheetBack}
@@ -25,12 +25,12 @@ module _ {K P A : Type 0} (k : K) (find find' : K → Told (Partner P)) (stands 
       go (gave _) f = filled-by k find find' stands s.used s b same f
       go (refused what) f = f
 
-module _ (t t' : SequenceTracker) (seqs seqs' : List ℕ) (secs secs' : List ℤ) (check : checkOf t seqs secs ≡ checkOf t' seqs' secs') (opt : FindOption) where
-  same-told : (used : ℕ) → sheetRule t seqs secs used ≡ sheetRule t' seqs' secs' used
+module _ (t t' : SequenceTracker) (seqs seqs' : List ℕ) (secs secs' : List ℤ) (check : check_of t seqs secs ≡ check_of t' seqs' secs') (opt : FindOption) where
+  same-told : (used : ℕ) → sheet_rule t seqs secs used ≡ sheet_rule t' seqs' secs' used
   same-told used = rw check
 
-  pub ts-alike : ((x : Seq) → findTs t seqs secs x opt ≡ findTs t' seqs' secs' x opt) → (s : TsSheet) (r : TsSheetBack) → FindsTs16 t seqs secs s opt r → FindsTs16 t' seqs' secs' s opt r
-  ts-alike same s r f = (f.0 ∙ same-told s.used, back_by _ _ _ _ same _ _ _ _ (same-told s.used) f.1)
+  pub ts_alike : ((x : Seq) → find_ts t seqs secs x opt ≡ find_ts t' seqs' secs' x opt) → (s : TsSheet) (r : TsSheetBack) → FindsTs16 t seqs secs s opt r → FindsTs16 t' seqs' secs' s opt r
+  ts_alike same s r f = (f.0 ∙ same-told s.used, back_by _ _ _ _ same _ _ _ _ (same-told s.used) f.1)
 
-  pub seq-alike : ((x : Second) → findSeq t seqs secs x opt ≡ findSeq t' seqs' secs' x opt) → (s : SeqSheet) (r : SeqSheetBack) → FindsSeq16 t seqs secs s opt r → FindsSeq16 t' seqs' secs' s opt r
-  seq-alike same s r f = (f.0 ∙ same-told s.used, back_by _ _ _ _ same _ _ _ _ (same-told s.used) f.1)
+  pub seq_alike : ((x : Second) → find_seq t seqs secs x opt ≡ find_seq t' seqs' secs' x opt) → (s : SeqSheet) (r : SeqSheetBack) → FindsSeq16 t seqs secs s opt r → FindsSeq16 t' seqs' secs' s opt r
+  seq_alike same s r f = (f.0 ∙ same-told s.used, back_by _ _ _ _ same _ _ _ _ (same-told s.used) f.1)

@@ -6,12 +6,12 @@ use lib.ListN.{length, length-map, length-set, get_or, set}
 use lib.Seq.{get_or-set_same, get_or-set_other}
 use Rattle.told.specs.Told.{Told, gave}
 use Rattle.lookup.specs.Find.{Partner, nothing}
-use Rattle.questions.proofs.Answered.{answered-none, answered-more, answered-by}
+use Rattle.questions.proofs.Answered.{answered_none, answered_more, answered_by}
 use Rattle.sheets.specs.Sheet.{Sheet, Filled}
 
 module _ {K P A : Type 0} (k : K) (find : K → Told (Partner P)) (stands : Partner P → A) (s : Sheet K A) where
   pub filled_none : Filled k find stands 0 s s
-  filled_none = record { same_keys = refl; same-used = refl; same_length = refl; each = answered-none find stands _ _ }
+  filled_none = record { same_keys = refl; same_used = refl; same_length = refl; each = answered_none find stands _ _ }
 
   -- one more answer
   pub filled_more : (i : ℕ) (back : Sheet K A) (p : Partner P) → i < length s.answers → find (get_or back.keys i k) ≡ gave p
@@ -23,9 +23,9 @@ module _ {K P A : Type 0} (k : K) (find : K → Told (Partner P)) (stands : Part
       let d = stands nothing in
       record {
         same_keys = f.same_keys;
-        same-used = f.same-used;
+        same_used = f.same_used;
         same_length = length-set old i a ∙ f.same_length;
-        each = answered-more find stands _ _ i (λ j. get_or old j d) (λ j. get_or (set old i a) j d) p
+        each = answered_more find stands _ _ i (λ j. get_or old j d) (λ j. get_or (set old i a) j d) p
             (ap (λ (ks : List K). find (get_or ks i k)) (sym f.same_keys) ∙ told)
             (get_or-set_same old i a d (rw f.same_length l))
             (λ j other. get_or-set_other old i j a d other)
@@ -41,7 +41,7 @@ pub filled-by : {K P A : Type 0} (k : K) (find find' : K → Told (Partner P)) (
     → ((x : K) → find x ≡ find' x) → Filled k find stands n s back → Filled k find' stands n s back
 filled-by k find find' stands n s back same f = record {
   same_keys = f.same_keys;
-  same-used = f.same-used;
+  same_used = f.same_used;
   same_length = f.same_length;
-  each = answered-by find find' stands n _ _ _ same f.each;
+  each = answered_by find find' stands n _ _ _ same f.each;
 }

@@ -12,9 +12,9 @@ use Rattle.lookup.specs.Find.{Partner, nothing}
 use Rattle.lookup.specs.declared.FindOption.{FindOption}
 use Rattle.questions.specs.declared.TsAnswer.{TsAnswer}
 use Rattle.questions.specs.declared.SeqAnswer.{SeqAnswer}
-use Rattle.questions.proofs.Answered.{answered-once}
-use Rattle.questions.proofs.Unique.{one-asked}
-use Rattle.sheets.specs.Sheet.{Sheet, Filled, ComesBack, sheetRule, TsBack, SeqBack, FindsTs16, FindsSeq16, tsSheet, seqSheet}
+use Rattle.questions.proofs.Answered.{answered_once}
+use Rattle.questions.proofs.Unique.{one_asked}
+use Rattle.sheets.specs.Sheet.{Sheet, Filled, ComesBack, sheet_rule, TsBack, SeqBack, FindsTs16, FindsSeq16, ts_sheet, seq_sheet}
 use Rattle.sheets.specs.declared.TsSheet.{TsSheet}
 use Rattle.sheets.specs.declared.SeqSheet.{SeqSheet}
 use Rattle.sheets.specs.declared.TsSheetBack.{TsSheetBack}
@@ -28,34 +28,34 @@ module _ {K P A : Type 0} (k : K) (find : K → Told (Partner P)) (stands : Part
   one-filled : (n : ℕ) (s b c : Sheet K A) → Filled k find stands n s b → Filled k find stands n s c → b ≡ c
   one-filled n s b c f g = same-sheet b c
       (f.same_keys ∙ sym g.same_keys)
-      (ext_get_or (stands nothing) b.answers c.answers (f.same_length ∙ sym g.same_length) (λ i _. answered-once find stands _ _ n _ _ f.each g.each i))
-      (f.same-used ∙ sym g.same-used)
+      (ext_get_or (stands nothing) b.answers c.answers (f.same_length ∙ sym g.same_length) (λ i _. answered_once find stands _ _ n _ _ f.each g.each i))
+      (f.same_used ∙ sym g.same_used)
 
   one-back : (told : Told (Unit {0})) (s b c : Sheet K A) → ComesBack k find stands told s b → ComesBack k find stands told s c → b ≡ c
   one-back (gave _) s b c f g = one-filled s.used s b c f g
   one-back (refused what) s b c f g = f ∙ sym g
 
 -- a sheet is its three parts
-ts-parts : (s t : TsSheet) → tsSheet s ≡ tsSheet t → s ≡ t
-ts-parts s t e = ap (λ (u : Sheet Seq TsAnswer). record { keys = u.keys; answers = u.answers; used = u.used }) e
+ts_parts : (s t : TsSheet) → ts_sheet s ≡ ts_sheet t → s ≡ t
+ts_parts s t e = ap (λ (u : Sheet Seq TsAnswer). record { keys = u.keys; answers = u.answers; used = u.used }) e
 
-seq-parts : (s t : SeqSheet) → seqSheet s ≡ seqSheet t → s ≡ t
-seq-parts s t e = ap (λ (u : Sheet Second SeqAnswer). record { keys = u.keys; answers = u.answers; used = u.used }) e
+seq_parts : (s t : SeqSheet) → seq_sheet s ≡ seq_sheet t → s ≡ t
+seq_parts s t e = ap (λ (u : Sheet Second SeqAnswer). record { keys = u.keys; answers = u.answers; used = u.used }) e
 
 -- of what comes back
-pub one-ts-back : (table : SequenceTracker) (seqs : List ℕ) (secs : List ℤ) (s : TsSheet) (opt : FindOption) (b₁ b₂ : TsSheet)
+pub one_ts_back : (table : SequenceTracker) (seqs : List ℕ) (secs : List ℤ) (s : TsSheet) (opt : FindOption) (b₁ b₂ : TsSheet)
     → TsBack table seqs secs s opt b₁ → TsBack table seqs secs s opt b₂ → b₁ ≡ b₂
-one-ts-back table seqs secs s opt b₁ b₂ f g = ts-parts b₁ b₂ (one-back _ _ _ (sheetRule table seqs secs s.used) (tsSheet s) (tsSheet b₁) (tsSheet b₂) f g)
+one_ts_back table seqs secs s opt b₁ b₂ f g = ts_parts b₁ b₂ (one-back _ _ _ (sheet_rule table seqs secs s.used) (ts_sheet s) (ts_sheet b₁) (ts_sheet b₂) f g)
 
-pub one-seq-back : (table : SequenceTracker) (seqs : List ℕ) (secs : List ℤ) (s : SeqSheet) (opt : FindOption) (b₁ b₂ : SeqSheet)
+pub one_seq_back : (table : SequenceTracker) (seqs : List ℕ) (secs : List ℤ) (s : SeqSheet) (opt : FindOption) (b₁ b₂ : SeqSheet)
     → SeqBack table seqs secs s opt b₁ → SeqBack table seqs secs s opt b₂ → b₁ ≡ b₂
-one-seq-back table seqs secs s opt b₁ b₂ f g = seq-parts b₁ b₂ (one-back _ _ _ (sheetRule table seqs secs s.used) (seqSheet s) (seqSheet b₁) (seqSheet b₂) f g)
+one_seq_back table seqs secs s opt b₁ b₂ f g = seq_parts b₁ b₂ (one-back _ _ _ (sheet_rule table seqs secs s.used) (seq_sheet s) (seq_sheet b₁) (seq_sheet b₂) f g)
 
 -- of `find_ts_16` and `find_seq_16`
-pub one-ts-16 : (table : SequenceTracker) (seqs : List ℕ) (secs : List ℤ) (s : TsSheet) (opt : FindOption) (r₁ r₂ : TsSheetBack)
+pub one_ts_16 : (table : SequenceTracker) (seqs : List ℕ) (secs : List ℤ) (s : TsSheet) (opt : FindOption) (r₁ r₂ : TsSheetBack)
     → FindsTs16 table seqs secs s opt r₁ → FindsTs16 table seqs secs s opt r₂ → r₁ ≡ r₂
-one-ts-16 table seqs secs s opt r₁ r₂ f g = rw (one-asked r₁.asked r₂.asked (f.0 ∙ sym g.0), one-ts-back table seqs secs s opt r₁.sheet r₂.sheet f.1 g.1)
+one_ts_16 table seqs secs s opt r₁ r₂ f g = rw (one_asked r₁.asked r₂.asked (f.0 ∙ sym g.0), one_ts_back table seqs secs s opt r₁.sheet r₂.sheet f.1 g.1)
 
-pub one-seq-16 : (table : SequenceTracker) (seqs : List ℕ) (secs : List ℤ) (s : SeqSheet) (opt : FindOption) (r₁ r₂ : SeqSheetBack)
+pub one_seq_16 : (table : SequenceTracker) (seqs : List ℕ) (secs : List ℤ) (s : SeqSheet) (opt : FindOption) (r₁ r₂ : SeqSheetBack)
     → FindsSeq16 table seqs secs s opt r₁ → FindsSeq16 table seqs secs s opt r₂ → r₁ ≡ r₂
-one-seq-16 table seqs secs s opt r₁ r₂ f g = rw (one-asked r₁.asked r₂.asked (f.0 ∙ sym g.0), one-seq-back table seqs secs s opt r₁.sheet r₂.sheet f.1 g.1)
+one_seq_16 table seqs secs s opt r₁ r₂ f g = rw (one_asked r₁.asked r₂.asked (f.0 ∙ sym g.0), one_seq_back table seqs secs s opt r₁.sheet r₂.sheet f.1 g.1)

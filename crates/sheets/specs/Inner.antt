@@ -2,15 +2,15 @@
 use Rattle.std.specs.Prelude.{ℕ, List, ℤ, pos}
 use Rattle.told.specs.Told.{gave}
 use Rattle.lookup.specs.declared.FindOption.{FindOption}
-use Rattle.questions.specs.Stands.{tsStands, seqStands}
-use Rattle.questions.specs.Inner.{tsPartner, seqPartner}
-use Rattle.sheets.specs.Sheet.{Filled, tsSheet, seqSheet}
+use Rattle.questions.specs.Stands.{ts_stands, seq_stands}
+use Rattle.questions.specs.Inner.{ts_partner, seq_partner}
+use Rattle.sheets.specs.Sheet.{Filled, ts_sheet, seq_sheet}
 use Rattle.sheets.specs.declared.TsSheet.{TsSheet}
 use Rattle.sheets.specs.declared.SeqSheet.{SeqSheet}
 
 -- the first i questions are answered, from the first n pairs of a good table
 abbrev pub FilledTs : List ℕ → List ℤ → ℕ → FindOption → ℕ → TsSheet → TsSheet → Type 0
-FilledTs seqs secs n opt i s back = Filled (record { 0 = 0 }) (λ key. gave (tsPartner seqs secs n key opt)) tsStands i (tsSheet s) (tsSheet back)
+FilledTs seqs secs n opt i s back = Filled (record { 0 = 0 }) (λ key. gave (ts_partner seqs secs n key opt)) ts_stands i (ts_sheet s) (ts_sheet back)
 
 abbrev pub FilledSeq : List ℕ → List ℤ → ℕ → FindOption → ℕ → SeqSheet → SeqSheet → Type 0
-FilledSeq seqs secs n opt i s back = Filled (record { 0 = pos 0 }) (λ key. gave (seqPartner seqs secs n key opt)) seqStands i (seqSheet s) (seqSheet back)
+FilledSeq seqs secs n opt i s back = Filled (record { 0 = pos 0 }) (λ key. gave (seq_partner seqs secs n key opt)) seq_stands i (seq_sheet s) (seq_sheet back)

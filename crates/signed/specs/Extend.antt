@@ -9,10 +9,10 @@ use Rattle.signed.specs.declared.Extended.TheVariants.{Value, Width}
 abbrev pub extend : ℕ → ℕ → ℤ
 extend w v = signed_of w (v % 2 ^ w)
 
-abbrev pub toldExtend : Extended → Told ℤ
-toldExtend (Value z) = gave z
-toldExtend Width = refused (23 ∷ [])
+abbrev pub told_extend : Extended → Told ℤ
+told_extend (Value z) = gave z
+told_extend Width = refused (23 ∷ [])
 
 -- widths 1 to 32 are taken, any other is refused
-abbrev pub extendRule : ℕ → ℕ → Told ℤ
-extendRule v w = cond (nat_le 1 w) (cond (nat_le w 32) (gave (extend w v)) (refused (23 ∷ []))) (refused (23 ∷ []))
+abbrev pub extend_rule : ℕ → ℕ → Told ℤ
+extend_rule v w = cond (nat_le 1 w) (cond (nat_le w 32) (gave (extend w v)) (refused (23 ∷ []))) (refused (23 ∷ []))

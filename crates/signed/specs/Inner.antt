@@ -3,5 +3,5 @@ use Rattle.std.specs.Prelude.{ℕ, ◌%◌, ◌^◌, ℤ}
 use Rattle.signed.specs.Signed.{pattern}
 
 -- the low w bits of z
-abbrev pub lowBits : ℕ → ℤ → ℕ
-lowBits w z = pattern z % 2 ^ w
+abbrev pub low_bits : ℕ → ℤ → ℕ
+low_bits w z = pattern z % 2 ^ w

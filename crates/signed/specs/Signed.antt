@@ -16,15 +16,15 @@ abbrev pub pattern : ℤ → ℕ
 pattern z = of_z w64 z
 
 -- a - b and a + b of patterns, wrapping at 64 bits
-abbrev pub subW : ℕ → ℕ → ℕ
-subW a b = (a + (2 ^ 64 - b)) % 2 ^ 64
+abbrev pub sub_w : ℕ → ℕ → ℕ
+sub_w a b = (a + (2 ^ 64 - b)) % 2 ^ 64
 
 abbrev pub add_w : ℕ → ℕ → ℕ
 add_w a b = (a + b) % 2 ^ 64
 
 -- the same of signed numbers
-abbrev pub subS : ℤ → ℤ → ℤ
-subS a b = signed (subW (pattern a) (pattern b))
+abbrev pub sub_s : ℤ → ℤ → ℤ
+sub_s a b = signed (sub_w (pattern a) (pattern b))
 
-abbrev pub addS : ℤ → ℤ → ℤ
-addS a b = signed (add_w (pattern a) (pattern b))
+abbrev pub add_s : ℤ → ℤ → ℤ
+add_s a b = signed (add_w (pattern a) (pattern b))

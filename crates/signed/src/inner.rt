@@ -1,6 +1,6 @@
 // Powers of two and low bits: each asks what its caller has tested. Our other crates call `low_bits`.
 ghost use Rattle.std.specs.Prelude.{◌≡◌, ◌%◌, ◌^◌, ◌≤◌};
-ghost use Rattle.signed.specs.Inner.{lowBits};
+ghost use Rattle.signed.specs.Inner.{low_bits};
 
 use crate::as_unsigned;
 
@@ -23,7 +23,7 @@ pub(crate) fn low_of(u: u64, width: u8) -> u64
 // The low `width` bits of a signed number.
 pub fn low_bits(d: i64, width: u8) -> u64
     requires { width ≤ 63 }
-    ensures { result ≡ lowBits width d }
+    ensures { result ≡ low_bits width d }
 {
     low_of(as_unsigned(d), width)
 }

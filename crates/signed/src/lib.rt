@@ -1,8 +1,8 @@
 // Signed numbers as patterns of bits: two's complement, wrapping sums, sign extension. Rust's `as` between u64 and i64 becomes a
 // helper by cases.
 ghost use Rattle.std.specs.Prelude.{◌≡◌};
-ghost use Rattle.signed.specs.Signed.{signed, pattern, subS, addS};
-ghost use Rattle.signed.specs.Extend.{toldExtend, extendRule};
+ghost use Rattle.signed.specs.Signed.{signed, pattern, sub_s, add_s};
+ghost use Rattle.signed.specs.Extend.{told_extend, extend_rule};
 
 pub mod inner; // inner.rt: powers of two and low bits; our other crates call `low_bits`
 
@@ -36,21 +36,21 @@ pub fn as_unsigned(i: i64) -> u64
 
 // a - b, wrapping at 64 bits.
 pub fn wrapping_sub(a: i64, b: i64) -> i64
-    ensures { result ≡ subS a b }
+    ensures { result ≡ sub_s a b }
 {
     as_signed(std::num::wrapping_sub_u64(as_unsigned(a), as_unsigned(b)))
 }
 
 // a + b, wrapping at 64 bits.
 pub fn wrapping_add(a: i64, b: i64) -> i64
-    ensures { result ≡ addS a b }
+    ensures { result ≡ add_s a b }
 {
     as_signed(std::num::wrapping_add_u64(as_unsigned(a), as_unsigned(b)))
 }
 
 // The low `bits` bits of `val` as they stand, less two to the width where the top one of them is set.
 pub fn sign_extend(val: u32, bits: u8) -> Extended
-    ensures { toldExtend result ≡ extendRule val bits }
+    ensures { told_extend result ≡ extend_rule val bits }
 {
     match bits {
         1..=32 => {

@@ -6,7 +6,7 @@ use lib.IntN.{ℤ, ◌-ℤ◌}
 use mir.Syntax.{w64}
 use mir.Val.{SFits}
 use Rattle.limits.specs.Domain.{outside}
-use Rattle.order.proofs.Domain.{inside-mag, mag-diff}
+use Rattle.order.proofs.Domain.{inside_mag, mag_diff}
 
-pub diff-fits : (a b : ℤ) → outside a ≡ false → outside b ≡ false → SFits w64 (a -ℤ b)
-diff-fits a b e f = record { sfits = omega (arith, inside-mag a e, inside-mag b f, mag-diff a b) }
+pub diff_fits : (a b : ℤ) → outside a ≡ false → outside b ≡ false → SFits w64 (a -ℤ b)
+diff_fits a b e f = record { sfits = omega (arith, inside_mag a e, inside_mag b f, mag_diff a b) }

@@ -1,9 +1,9 @@
 // Bits in and out, sign extension.
 ghost use Rattle.std.specs.Prelude.{◌≡◌};
-ghost use Rattle.bits.specs.Read.{readRule};
-ghost use Rattle.bits.specs.Write.{writeRule, written};
-ghost use Rattle.signed.specs.Extend.{extendRule};
-ghost use Rattle.answers.specs.Answer.{ofPiece, ofPlace, ofSigned};
+ghost use Rattle.bits.specs.Read.{read_rule};
+ghost use Rattle.bits.specs.Write.{write_rule, written};
+ghost use Rattle.signed.specs.Extend.{extend_rule};
+ghost use Rattle.answers.specs.Answer.{of_piece, of_place, of_signed};
 
 use answers::Answer;
 use bits::Place;
@@ -12,7 +12,7 @@ use call_answers::inner as calls;
 // Gives the bits as a number, and the byte and the bit of the place after them.
 #[unsafe(no_mangle)]
 pub extern "C" fn skut_read_bits(s: &[u8], byte: usize, bit: u8, width: u8) -> Answer
-    ensures { result ≡ ofPiece (readRule s.now (record { byte = byte; bit = bit }) width) }
+    ensures { result ≡ of_piece (read_rule s.now (record { byte = byte; bit = bit }) width) }
 {
     let at = Place {
         byte: byte,
@@ -30,7 +30,7 @@ pub extern "C" fn skut_write_bits(
     value: u64,
     width: u8,
 ) -> Answer
-    ensures answer { result ≡ ofPlace (writeRule buf.old (record { byte = byte; bit = bit }) width) }
+    ensures answer { result ≡ of_place (write_rule buf.old (record { byte = byte; bit = bit }) width) }
     ensures buf { buf.new ≡ written buf.old (record { byte = byte; bit = bit }) value width }
 {
     let at = Place {
@@ -43,7 +43,7 @@ pub extern "C" fn skut_write_bits(
 // Gives the signed number by its 64 bits.
 #[unsafe(no_mangle)]
 pub extern "C" fn skut_sign_extend(val: u32, bits: u8) -> Answer
-    ensures { result ≡ ofSigned (extendRule val bits) }
+    ensures { result ≡ of_signed (extend_rule val bits) }
 {
     calls::of_extension(signed::sign_extend(val, bits))
 }

@@ -1,7 +1,7 @@
 // Dates of RFC 3339, written and read.
 ghost use Rattle.std.specs.Prelude.{◌≡◌};
-ghost use Rattle.dates.specs.Read.{readDate};
-ghost use Rattle.answers.specs.Answer.{ofSigned};
+ghost use Rattle.dates.specs.Read.{read_date};
+ghost use Rattle.answers.specs.Answer.{of_signed};
 ghost use Rattle.skutlaneb.specs.Calls.{SkutWritesDate};
 
 use answers::Answer;
@@ -19,7 +19,7 @@ pub extern "C" fn skut_write_date(sec: i64, out: &mut [u8]) -> Answer
 // Gives the second, by its 64 bits.
 #[unsafe(no_mangle)]
 pub extern "C" fn skut_read_date(bytes: &[u8]) -> Answer
-    ensures { result ≡ ofSigned (readDate bytes.now) }
+    ensures { result ≡ of_signed (read_date bytes.now) }
 {
     calls::of_date_read(dates::read_date(bytes))
 }

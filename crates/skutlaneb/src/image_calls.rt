@@ -2,7 +2,7 @@
 ghost use Rattle.std.specs.Prelude.{◌≡◌};
 ghost use Rattle.encoder.specs.Encode as encoding;
 ghost use Rattle.decoder.specs.Decode as decoding;
-ghost use Rattle.answers.specs.Answer.{ofCount};
+ghost use Rattle.answers.specs.Answer.{of_count};
 ghost use Rattle.skutlaneb.specs.Calls.{SkutEncodes};
 
 use answers::Answer;
@@ -11,7 +11,7 @@ use call_answers::inner as calls;
 // Gives the bytes of the image.
 #[unsafe(no_mangle)]
 pub extern "C" fn skut_encoded_len(seqs: &[u64], secs: &[i64]) -> Answer
-    ensures { result ≡ ofCount (encoding.lenRule seqs.now secs.now) }
+    ensures { result ≡ of_count (encoding.len_rule seqs.now secs.now) }
 {
     calls::of_encoded_len(encoder::encoded_len(seqs, secs))
 }
@@ -19,7 +19,7 @@ pub extern "C" fn skut_encoded_len(seqs: &[u64], secs: &[i64]) -> Answer
 // Gives the bytes written.
 #[unsafe(no_mangle)]
 pub extern "C" fn skut_encode(seqs: &[u64], secs: &[i64], out: &mut [u8]) -> Answer
-    ensures { SkutEncodes encoding.encodeRule seqs.now secs.now out.old result out.new }
+    ensures { SkutEncodes encoding.encode_rule seqs.now secs.now out.old result out.new }
 {
     calls::of_encoded(encoder::encode(seqs, secs, out))
 }
@@ -27,7 +27,7 @@ pub extern "C" fn skut_encode(seqs: &[u64], secs: &[i64], out: &mut [u8]) -> Ans
 // Gives the bytes written.
 #[unsafe(no_mangle)]
 pub extern "C" fn skut_encode_strict(seqs: &[u64], secs: &[i64], out: &mut [u8]) -> Answer
-    ensures { SkutEncodes encoding.strictRule seqs.now secs.now out.old result out.new }
+    ensures { SkutEncodes encoding.strict_rule seqs.now secs.now out.old result out.new }
 {
     calls::of_encoded(encoder::encode_strict(seqs, secs, out))
 }
@@ -35,9 +35,9 @@ pub extern "C" fn skut_encode_strict(seqs: &[u64], secs: &[i64], out: &mut [u8])
 // The list reader. Gives the pair count.
 #[unsafe(no_mangle)]
 pub extern "C" fn skut_decode(bytes: &[u8], seqs: &mut [u64], secs: &mut [i64]) -> Answer
-    ensures answer { result ≡ ofCount (decoding.decodeRule bytes.now seqs.old secs.old) }
-    ensures seqs { seqs.new ≡ decoding.seqsAfter bytes.now seqs.old secs.old }
-    ensures secs { secs.new ≡ decoding.secsAfter bytes.now seqs.old secs.old }
+    ensures answer { result ≡ of_count (decoding.decode_rule bytes.now seqs.old secs.old) }
+    ensures seqs { seqs.new ≡ decoding.seqs_after bytes.now seqs.old secs.old }
+    ensures secs { secs.new ≡ decoding.secs_after bytes.now seqs.old secs.old }
 {
     calls::of_decoded(decoder::decode(bytes, seqs, secs))
 }
@@ -45,7 +45,7 @@ pub extern "C" fn skut_decode(bytes: &[u8], seqs: &mut [u64], secs: &mut [i64]) 
 // Gives the image's length: what follows it starts there.
 #[unsafe(no_mangle)]
 pub extern "C" fn skut_image_len(bytes: &[u8]) -> Answer
-    ensures { result ≡ ofCount (decoding.imageLenRule bytes.now) }
+    ensures { result ≡ of_count (decoding.image_len_rule bytes.now) }
 {
     calls::of_image_len(decoder::image_len(bytes))
 }

@@ -1,6 +1,6 @@
 // A table saved as an image, and restored from one.
-ghost use Rattle.saving.specs.Save.{saveOf, saveStrictOf};
-ghost use Rattle.restoring.specs.Restore.{restoreOf, restoreAt};
+ghost use Rattle.saving.specs.Save.{save_of, save_strict_of};
+ghost use Rattle.restoring.specs.Restore.{restore_of, restore_at};
 ghost use Rattle.skutlaneb.specs.Calls.{SkutSaves, SkutRestores};
 
 use answers::Answer;
@@ -11,7 +11,7 @@ use table_answers::{TableAnswer, inner as tables};
 // Gives the bytes written.
 #[unsafe(no_mangle)]
 pub extern "C" fn skut_save(state: State, seqs: &[u64], secs: &[i64], out: &mut [u8]) -> Answer
-    ensures { SkutSaves saveOf state seqs.now secs.now out.old result out.new }
+    ensures { SkutSaves save_of state seqs.now secs.now out.old result out.new }
 {
     let table = states::inner::table_of(state);
     calls::of_saved(saving::save(table, seqs, secs, out))
@@ -25,7 +25,7 @@ pub extern "C" fn skut_save_strict(
     secs: &[i64],
     out: &mut [u8],
 ) -> Answer
-    ensures { SkutSaves saveStrictOf state seqs.now secs.now out.old result out.new }
+    ensures { SkutSaves save_strict_of state seqs.now secs.now out.old result out.new }
 {
     let table = states::inner::table_of(state);
     calls::of_saved(saving::save_strict(table, seqs, secs, out))
@@ -34,7 +34,7 @@ pub extern "C" fn skut_save_strict(
 // The table has the default settings. Needs 130 KB of stack: two arrays of 8,192 are its own.
 #[unsafe(no_mangle)]
 pub extern "C" fn skut_restore(bytes: &[u8], seqs: &mut [u64], secs: &mut [i64]) -> TableAnswer
-    ensures { SkutRestores restoreOf bytes.now seqs.old secs.old result seqs.new secs.new }
+    ensures { SkutRestores restore_of bytes.now seqs.old secs.old result seqs.new secs.new }
 {
     tables::of_restored(restoring::restore(bytes, seqs, secs))
 }
@@ -47,7 +47,7 @@ pub extern "C" fn skut_restore_with_interval(
     secs: &mut [i64],
     interval_secs: u64,
 ) -> TableAnswer
-    ensures { SkutRestores (restoreAt interval_secs) bytes.now seqs.old secs.old result seqs.new secs.new }
+    ensures { SkutRestores (restore_at interval_secs) bytes.now seqs.old secs.old result seqs.new secs.new }
 {
     tables::of_restored(restoring::restore_with_interval(bytes, seqs, secs, interval_secs))
 }

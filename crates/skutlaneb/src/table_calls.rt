@@ -1,12 +1,12 @@
 // A table: settings, the check, offers, lookups. A second is a signed number, a sequence an unsigned one.
 ghost use Rattle.std.specs.Prelude.{◌≡◌};
 ghost use Rattle.told.specs.Told.{gave};
-ghost use Rattle.fresh.specs.Fresh.{newTable, configOf};
-ghost use Rattle.tracker.specs.Table.{checkOf};
-ghost use Rattle.lookup.specs.Find.{findTs, findSeq};
-ghost use Rattle.answers.specs.Answer.{ofCheck, ofTs, ofSeq};
-ghost use Rattle.states.specs.State.{table_of, roundOf};
-ghost use Rattle.table_answers.specs.Table.{ofTable};
+ghost use Rattle.fresh.specs.Fresh.{new_table, config_of};
+ghost use Rattle.tracker.specs.Table.{check_of};
+ghost use Rattle.lookup.specs.Find.{find_ts, find_seq};
+ghost use Rattle.answers.specs.Answer.{of_check, of_ts, of_seq};
+ghost use Rattle.states.specs.State.{table_of, round_of};
+ghost use Rattle.table_answers.specs.Table.{of_table};
 ghost use Rattle.skutlaneb.specs.Calls.{SkutOffers, SkutOffersPairs, SkutExtends};
 
 use answers::Answer;
@@ -18,7 +18,7 @@ use tracker::{Second, Seq};
 // An empty table with the default settings.
 #[unsafe(no_mangle)]
 pub extern "C" fn skut_new() -> TableAnswer
-    ensures { result ≡ ofTable (gave newTable) }
+    ensures { result ≡ of_table (gave new_table) }
 {
     tables::fresh(fresh::new())
 }
@@ -26,7 +26,7 @@ pub extern "C" fn skut_new() -> TableAnswer
 // An empty table with the settings named.
 #[unsafe(no_mangle)]
 pub extern "C" fn skut_with_config(capacity: u32, interval_secs: u64) -> TableAnswer
-    ensures { result ≡ ofTable (configOf capacity interval_secs) }
+    ensures { result ≡ of_table (config_of capacity interval_secs) }
 {
     tables::of_made(fresh::with_config(capacity, interval_secs))
 }
@@ -34,7 +34,7 @@ pub extern "C" fn skut_with_config(capacity: u32, interval_secs: u64) -> TableAn
 // What every call on a table checks first. Gives nothing: the number is 0 where the table is good.
 #[unsafe(no_mangle)]
 pub extern "C" fn skut_check(state: State, seqs: &[u64], secs: &[i64]) -> Answer
-    ensures { result ≡ ofCheck (checkOf (table_of state) seqs.now secs.now) }
+    ensures { result ≡ of_check (check_of (table_of state) seqs.now secs.now) }
 {
     let table = states::inner::table_of(state);
     calls::of_checked(tracker::check(table, seqs, secs))
@@ -101,7 +101,7 @@ pub extern "C" fn skut_find_ts(
     seq: u64,
     round: u32,
 ) -> Answer
-    ensures { result ≡ ofTs (findTs (table_of state) seqs.now secs.now (record { 0 = seq }) (roundOf round)) }
+    ensures { result ≡ of_ts (find_ts (table_of state) seqs.now secs.now (record { 0 = seq }) (round_of round)) }
 {
     let table = states::inner::table_of(state);
     let opt = states::inner::round_of(round);
@@ -117,7 +117,7 @@ pub extern "C" fn skut_find_seq(
     sec: i64,
     round: u32,
 ) -> Answer
-    ensures { result ≡ ofSeq (findSeq (table_of state) seqs.now secs.now (record { 0 = sec }) (roundOf round)) }
+    ensures { result ≡ of_seq (find_seq (table_of state) seqs.now secs.now (record { 0 = sec }) (round_of round)) }
 {
     let table = states::inner::table_of(state);
     let opt = states::inner::round_of(round);

@@ -1,8 +1,8 @@
 // Why a lookup answers as it does. A `round` of 0 rounds up, any other down.
 ghost use Rattle.std.specs.Prelude.{◌≡◌};
-ghost use Rattle.explaining.specs.Why.{whyTs, whySeq};
-ghost use Rattle.states.specs.State.{table_of, roundOf};
-ghost use Rattle.why_answers.specs.Why.{ofWhyTs, ofWhySeq};
+ghost use Rattle.explaining.specs.Why.{why_ts, why_seq};
+ghost use Rattle.states.specs.State.{table_of, round_of};
+ghost use Rattle.why_answers.specs.Why.{of_why_ts, of_why_seq};
 
 use states::State;
 use tracker::{Second, Seq};
@@ -17,7 +17,7 @@ pub extern "C" fn skut_why_ts(
     seq: u64,
     round: u32,
 ) -> WhyAnswer
-    ensures { result ≡ ofWhyTs (whyTs (table_of state) seqs.now secs.now (record { 0 = seq }) (roundOf round)) }
+    ensures { result ≡ of_why_ts (why_ts (table_of state) seqs.now secs.now (record { 0 = seq }) (round_of round)) }
 {
     let table = states::inner::table_of(state);
     let opt = states::inner::round_of(round);
@@ -33,7 +33,7 @@ pub extern "C" fn skut_why_seq(
     sec: i64,
     round: u32,
 ) -> WhyAnswer
-    ensures { result ≡ ofWhySeq (whySeq (table_of state) seqs.now secs.now (record { 0 = sec }) (roundOf round)) }
+    ensures { result ≡ of_why_seq (why_seq (table_of state) seqs.now secs.now (record { 0 = sec }) (round_of round)) }
 {
     let table = states::inner::table_of(state);
     let opt = states::inner::round_of(round);

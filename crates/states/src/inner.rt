@@ -1,6 +1,6 @@
 // A table that comes in as a state, and one that goes out.
 ghost use Rattle.std.specs.Prelude.{◌≡◌, cond, ltb};
-ghost use Rattle.states.specs.State.{lastIn, noCapacity, table_of, roundOf, state_of, noState};
+ghost use Rattle.states.specs.State.{last_in, no_capacity, table_of, round_of, state_of, no_state};
 
 use crate::State;
 use lookup::FindOption;
@@ -10,7 +10,7 @@ use tracker::{LastRecorded, Second, SequenceTracker};
 const NO_CAPACITY: u32 = 4294967295;
 
 fn last_in(mark: u32, last: i64) -> LastRecorded
-    ensures { result ≡ lastIn mark last }
+    ensures { result ≡ last_in mark last }
 {
     if mark == 0 {
         return LastRecorded::Never;
@@ -19,7 +19,7 @@ fn last_in(mark: u32, last: i64) -> LastRecorded
 }
 
 fn capacity_in(mark: u32, capacity: u32) -> u32
-    ensures { result ≡ cond (ltb 1 mark) noCapacity capacity }
+    ensures { result ≡ cond (ltb 1 mark) no_capacity capacity }
 {
     if mark > 1 { NO_CAPACITY } else { capacity }
 }
@@ -40,7 +40,7 @@ pub fn table_of(state: State) -> SequenceTracker
 }
 
 pub fn round_of(round: u32) -> FindOption
-    ensures { result ≡ roundOf round }
+    ensures { result ≡ round_of round }
 {
     if round == 0 {
         return FindOption::RoundUp;
@@ -75,7 +75,7 @@ pub fn state_of(table: SequenceTracker) -> State
 
 // The state given where none is returned: every call refuses it.
 pub fn no_state() -> State
-    ensures { result ≡ noState }
+    ensures { result ≡ no_state }
 {
     let none = totals::inner::no_totals();
     State {

@@ -1,8 +1,8 @@
 // The first difference of deltas outside -2^31..2^31-1.
 ghost use Rattle.std.specs.Prelude.{◌≡◌, ◌≤◌, map, length};
 ghost use Rattle.signed.specs.Signed.{signed};
-ghost use Rattle.gorilla.specs.Wide.{wideIn, wide_of};
-ghost use Rattle.strict.specs.Inner.{foundWide};
+ghost use Rattle.gorilla.specs.Wide.{wide_in, wide_of};
+ghost use Rattle.strict.specs.Inner.{found_wide};
 
 use crate::FirstWide;
 use crate::calm::{calm_secs, calm_seqs};
@@ -11,7 +11,7 @@ use gorilla::{Array, Track};
 
 // Among the sequences.
 fn first_wide_seq(seqs: &[u64]) -> FirstWide
-    ensures { foundWide result ≡ wideIn 0 (map signed seqs.now) }
+    ensures { found_wide result ≡ wide_in 0 (map signed seqs.now) }
 {
     if seqs.len() == 0 {
         return FirstWide::None;
@@ -35,7 +35,7 @@ fn first_wide_seq(seqs: &[u64]) -> FirstWide
 
 // Among the seconds.
 fn first_wide_sec(secs: &[i64]) -> FirstWide
-    ensures { foundWide result ≡ wideIn 1 secs.now }
+    ensures { found_wide result ≡ wide_in 1 secs.now }
 {
     if secs.len() == 0 {
         return FirstWide::None;
@@ -61,7 +61,7 @@ fn first_wide_sec(secs: &[i64]) -> FirstWide
 // Among the sequences, with no search where their deltas are small.
 fn wide_seq(seqs: &[u64]) -> FirstWide
     requires { length seqs.now ≤ 65536 }
-    ensures { foundWide result ≡ wideIn 0 (map signed seqs.now) }
+    ensures { found_wide result ≡ wide_in 0 (map signed seqs.now) }
 {
     if calm_seqs(seqs) {
         return FirstWide::None;
@@ -72,7 +72,7 @@ fn wide_seq(seqs: &[u64]) -> FirstWide
 // Among the seconds, likewise.
 fn wide_sec(secs: &[i64]) -> FirstWide
     requires { length secs.now ≤ 65536 }
-    ensures { foundWide result ≡ wideIn 1 secs.now }
+    ensures { found_wide result ≡ wide_in 1 secs.now }
 {
     if calm_secs(secs) {
         return FirstWide::None;
@@ -83,7 +83,7 @@ fn wide_sec(secs: &[i64]) -> FirstWide
 // Sequences before seconds.
 pub fn first_wide(seqs: &[u64], secs: &[i64]) -> FirstWide
     requires { (length seqs.now ≤ 65536) × (length secs.now ≤ 65536) }
-    ensures { foundWide result ≡ wide_of seqs.now secs.now }
+    ensures { found_wide result ≡ wide_of seqs.now secs.now }
 {
     match wide_seq(seqs) {
         FirstWide::None => wide_sec(secs),

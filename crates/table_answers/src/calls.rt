@@ -1,10 +1,10 @@
 // The answer of each call below that gives a table, as it crosses.
 ghost use Rattle.std.specs.Prelude.{◌≡◌};
-ghost use Rattle.tracker.specs.Refusal.{toldMade};
-ghost use Rattle.offers.specs.Offer.{toldOffer};
-ghost use Rattle.log.specs.Log.{toldLog};
-ghost use Rattle.restoring.specs.Restore.{toldRestore};
-ghost use Rattle.table_answers.specs.Table.{ofTable, ofOffer, ofLog};
+ghost use Rattle.tracker.specs.Refusal.{told_made};
+ghost use Rattle.offers.specs.Offer.{told_offer};
+ghost use Rattle.log.specs.Log.{told_log};
+ghost use Rattle.restoring.specs.Restore.{told_restore};
+ghost use Rattle.table_answers.specs.Table.{of_table, of_offer, of_log};
 
 use crate::{TableAnswer, refusals, tables};
 use answers::inner::answer;
@@ -15,7 +15,7 @@ use tallies::inner::of_one;
 use tracker::Made;
 
 pub fn of_made(made: Made) -> TableAnswer
-    ensures { result ≡ ofTable (toldMade made) }
+    ensures { result ≡ of_table (told_made made) }
 {
     match made {
         Made::Table(table) => tables::fresh(table),
@@ -24,7 +24,7 @@ pub fn of_made(made: Made) -> TableAnswer
 }
 
 pub fn of_offered(offered: Offered) -> TableAnswer
-    ensures { result ≡ ofOffer (toldOffer offered) }
+    ensures { result ≡ of_offer (told_offer offered) }
 {
     let tally = of_one(offered);
     match offered {
@@ -41,7 +41,7 @@ pub fn of_offered(offered: Offered) -> TableAnswer
 }
 
 pub fn of_logged(logged: Logged) -> TableAnswer
-    ensures { result ≡ ofLog (toldLog logged) }
+    ensures { result ≡ of_log (told_log logged) }
 {
     match logged {
         Logged::Done { table, tally } => tables::with_table(answer(0, 0, 0, 0), table, tally),
@@ -59,7 +59,7 @@ pub fn of_logged(logged: Logged) -> TableAnswer
 }
 
 pub fn of_restored(restored: Restored) -> TableAnswer
-    ensures { result ≡ ofTable (toldRestore restored) }
+    ensures { result ≡ of_table (told_restore restored) }
 {
     match restored {
         Restored::Table(table) => tables::fresh(table),

@@ -1,8 +1,8 @@
 // The answers that hold a table's state, and that hold none.
 ghost use Rattle.std.specs.Prelude.{◌≡◌, [], ◌∷◌};
-ghost use Rattle.tallies.specs.Tally.{noneYet};
-ghost use Rattle.states.specs.State.{state_of, noState};
-ghost use Rattle.table_answers.specs.Table.{tableAnswerOf};
+ghost use Rattle.tallies.specs.Tally.{none_yet};
+ghost use Rattle.states.specs.State.{state_of, no_state};
+ghost use Rattle.table_answers.specs.Table.{table_answer_of};
 
 use crate::TableAnswer;
 use answers::Answer;
@@ -25,14 +25,14 @@ pub fn with_table(answer: Answer, table: SequenceTracker, tally: Tally) -> Table
 
 // Not refused, and no offers made.
 pub fn fresh(table: SequenceTracker) -> TableAnswer
-    ensures { result ≡ tableAnswerOf (0 ∷ []) noneYet (state_of table) }
+    ensures { result ≡ table_answer_of (0 ∷ []) none_yet (state_of table) }
 {
     with_table(answer(0, 0, 0, 0), table, none_yet())
 }
 
 // Refused, with a state that every call refuses.
 pub fn no_table(answer: Answer) -> TableAnswer
-    ensures { result ≡ record { answer = answer; tally = noneYet; state = noState } }
+    ensures { result ≡ record { answer = answer; tally = none_yet; state = no_state } }
 {
     let state = states::inner::no_state();
     TableAnswer {

@@ -1,7 +1,7 @@
 // A tally before the first record, with one more, of one offer alone, and all that it counts.
 ghost use Rattle.std.specs.Prelude.{◌≡◌, ◌+◌, ◌<◌, ◌^◌};
-ghost use Rattle.offers.specs.Offer.{toldOffer};
-ghost use Rattle.tallies.specs.Tally.{noneYet, counted, total};
+ghost use Rattle.offers.specs.Offer.{told_offer};
+ghost use Rattle.tallies.specs.Tally.{none_yet, counted, total};
 ghost use Rattle.tallies.specs.Inner.{CountedAs};
 
 use crate::Tally;
@@ -10,7 +10,7 @@ use offers::inner::Came;
 
 // Before the first record.
 pub fn none_yet() -> Tally
-    ensures { result ≡ noneYet }
+    ensures { result ≡ none_yet }
 {
     Tally {
         recorded: 0,
@@ -61,7 +61,7 @@ fn numbers(recorded: usize, went_back: usize, too_soon: usize) -> Tally
 
 // Of one offer alone, by what it answered.
 pub fn of_one(offered: Offered) -> Tally
-    ensures { result ≡ counted (toldOffer offered) noneYet }
+    ensures { result ≡ counted (told_offer offered) none_yet }
 {
     match offered {
         Offered::Recorded(_) => numbers(1, 0, 0),

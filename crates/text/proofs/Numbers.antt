@@ -12,7 +12,7 @@ use lib.Signed.{lt_z}
 use mir.Syntax.{w64}
 use mir.Val.{SFits, of_z}
 use lib.ListN.{length, length-append}
-use Rattle.text.specs.Text.{digits, decimal, signedDecimal, word_line}
+use Rattle.text.specs.Text.{digits, decimal, signed_decimal, word_line}
 
 pub small : (k n : ℕ) → n < 10 → digits (suc k) n ≡ (48 + n) ∷ []
 unfolding digits
@@ -44,13 +44,13 @@ more (suc k) n h = go (more k (n / 10) (fall k n h)) (ltb n 10) refl
         let l : 10 ≤ n = omega (arith, ltb-false) in
         large (suc (suc k)) n l ∙ ap (λ (d : List ℕ). d ++ ((48 + n % 10) ∷ [])) i ∙ sym (large (suc k) n l)
 
-pub decimal-small : (n : ℕ) → n < 10 → decimal n ≡ (48 + n) ∷ []
+pub decimal_small : (n : ℕ) → n < 10 → decimal n ≡ (48 + n) ∷ []
 unfolding decimal
-decimal-small n h = small 19 n h
+decimal_small n h = small 19 n h
 
-pub decimal-large : (n : ℕ) → 10 ≤ n → n < 2 ^ 64 → decimal n ≡ decimal (n / 10) ++ ((48 + n % 10) ∷ [])
+pub decimal_large : (n : ℕ) → 10 ≤ n → n < 2 ^ 64 → decimal n ≡ decimal (n / 10) ++ ((48 + n % 10) ∷ [])
 unfolding decimal
-decimal-large n h l = large 19 n h ∙ ap (λ (d : List ℕ). d ++ ((48 + n % 10) ∷ [])) (sym (more 18 (n / 10) (omega arith)))
+decimal_large n h l = large 19 n h ∙ ap (λ (d : List ℕ). d ++ ((48 + n % 10) ∷ [])) (sym (more 18 (n / 10) (omega arith)))
 
 -- ---- lengths
 digits-length : (k n : ℕ) → length (digits k n) ≤ k
@@ -66,26 +66,26 @@ pub decimal-length : (n : ℕ) → length (decimal n) ≤ 20
 unfolding decimal
 decimal-length n = digits-length 20 n
 
-pub signed-length : (z : ℤ) → length (signedDecimal z) ≤ 21
-unfolding signedDecimal
+pub signed-length : (z : ℤ) → length (signed_decimal z) ≤ 21
+unfolding signed_decimal
 signed-length (pos n) = omega (arith, decimal-length n)
 signed-length (negsuc n) = omega (arith, decimal-length (suc n))
 
 -- ---- signs: the bits of a negative number are those of 2^64 less its magnitude
-bits-of : (z : ℤ) → SFits w64 z → lt_z z (pos 0) ≡ true → (2 ^ 63 ≤ of_z w64 z) × (18446744073709551615 - of_z w64 z + 1 ≡ nat_abs z)
-bits-of (pos n) f e = absurd (omega (arith, ltb-true))
-bits-of (negsuc n) f e = (omega (arith, f.sfits), omega (arith, f.sfits))
+bits_of_lem : (z : ℤ) → SFits w64 z → lt_z z (pos 0) ≡ true → (2 ^ 63 ≤ of_z w64 z) × (18446744073709551615 - of_z w64 z + 1 ≡ nat_abs z)
+bits_of_lem (pos n) f e = absurd (omega (arith, ltb-true))
+bits_of_lem (negsuc n) f e = (omega (arith, f.sfits), omega (arith, f.sfits))
 
 pub upper : (z : ℤ) → SFits w64 z → lt_z z (pos 0) ≡ true → 2 ^ 63 ≤ of_z w64 z
-upper z f e = (bits-of z f e).0
+upper z f e = (bits_of_lem z f e).0
 
-pub negative : (z : ℤ) → SFits w64 z → lt_z z (pos 0) ≡ true → signedDecimal z ≡ (45 ∷ []) ++ decimal (18446744073709551615 - of_z w64 z + 1)
-unfolding signedDecimal
+pub negative : (z : ℤ) → SFits w64 z → lt_z z (pos 0) ≡ true → signed_decimal z ≡ (45 ∷ []) ++ decimal (18446744073709551615 - of_z w64 z + 1)
+unfolding signed_decimal
 negative (pos n) f e = absurd (omega (arith, ltb-true))
-negative (negsuc n) f e = rw (bits-of (negsuc n) f e).1
+negative (negsuc n) f e = rw (bits_of_lem (negsuc n) f e).1
 
-pub positive : (z : ℤ) → lt_z z (pos 0) ≡ false → signedDecimal z ≡ decimal (of_z w64 z)
-unfolding signedDecimal
+pub positive : (z : ℤ) → lt_z z (pos 0) ≡ false → signed_decimal z ≡ decimal (of_z w64 z)
+unfolding signed_decimal
 positive (pos n) e = refl
 positive (negsuc n) e = absurd (subst T e tt)
 

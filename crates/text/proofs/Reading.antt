@@ -16,9 +16,9 @@ abbrev value : ℕ → List ℕ → ℕ
 value v [] = v
 value v (d ∷ ds) = value (v * 10 + (d - 48)) ds
 
-value-snoc : (ds : List ℕ) (v d : ℕ) → value v (ds ++ (d ∷ [])) ≡ value v ds * 10 + (d - 48)
-value-snoc [] v d = refl
-value-snoc (e ∷ ds) v d = value-snoc ds (v * 10 + (e - 48)) d
+value_snoc : (ds : List ℕ) (v d : ℕ) → value v (ds ++ (d ∷ [])) ≡ value v ds * 10 + (d - 48)
+value_snoc [] v d = refl
+value_snoc (e ∷ ds) v d = value_snoc ds (v * 10 + (e - 48)) d
 
 fall : (k n : ℕ) → n < 10 ^ suc k → n / 10 < 10 ^ k
 fall k n h = omega (arith, pow-suc 10 k)
@@ -31,15 +31,15 @@ back (suc k) n h = go (back k (n / 10) (fall (suc k) n h)) (ltb n 10) refl
     go i true e = let l : n < 10 = omega (arith, ltb-true) in rw (small (suc k) n l) (omega arith)
     go i false e =
         let l : 10 ≤ n = omega (arith, ltb-false) in
-        rw (large (suc k) n l, value-snoc (digits (suc k) (n / 10)) 0 (48 + n % 10), i) (omega arith)
+        rw (large (suc k) n l, value_snoc (digits (suc k) (n / 10)) 0 (48 + n % 10), i) (omega arith)
 
-pub reads-back : (n : ℕ) → n < 2 ^ 64 → value 0 (decimal n) ≡ n
+pub reads_back : (n : ℕ) → n < 2 ^ 64 → value 0 (decimal n) ≡ n
 unfolding decimal
-reads-back n h = back 19 n (omega arith)
+reads_back n h = back 19 n (omega arith)
 
 -- two numbers of one text are equal
-pub one-text : (m n : ℕ) → m < 2 ^ 64 → n < 2 ^ 64 → decimal m ≡ decimal n → m ≡ n
-one-text m n hm hn e = sym (reads-back m hm) ∙ ap (value 0) e ∙ reads-back n hn
+pub one_text : (m n : ℕ) → m < 2 ^ 64 → n < 2 ^ 64 → decimal m ≡ decimal n → m ≡ n
+one_text m n hm hn e = sym (reads_back m hm) ∙ ap (value 0) e ∙ reads_back n hn
 
 filled : (k n : ℕ) → 0 < length (digits (suc k) n)
 filled k n = go (ltb n 10) refl
@@ -58,6 +58,6 @@ lead (suc k) n p h = go (λ q. lead k (n / 10) q (fall (suc k) n h)) (ltb n 10) 
         let l : 10 ≤ n = omega (arith, ltb-false) in
         rw (large (suc k) n l, get_or-append (digits (suc k) (n / 10)) ((48 + n % 10) ∷ []) 0 0 (filled k (n / 10))) (i (omega arith))
 
-pub no-zero-first : (n : ℕ) → 0 < n → n < 2 ^ 64 → 48 < get_or (decimal n) 0 0
+pub no_zero-first : (n : ℕ) → 0 < n → n < 2 ^ 64 → 48 < get_or (decimal n) 0 0
 unfolding decimal
-no-zero-first n p h = lead 19 n p (omega arith)
+no_zero-first n p h = lead 19 n p (omega arith)

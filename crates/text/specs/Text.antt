@@ -18,9 +18,9 @@ unfoldable pub decimal : ℕ → List ℕ
 decimal n = digits 20 n
 
 -- a signed number in decimal: a minus before negatives; `negsuc n` is -(n + 1)
-unfoldable pub signedDecimal : ℤ → List ℕ
-signedDecimal (pos n) = decimal n
-signedDecimal (negsuc n) = ascii "-" ++ decimal (suc n)
+unfoldable pub signed_decimal : ℤ → List ℕ
+signed_decimal (pos n) = decimal n
+signed_decimal (negsuc n) = ascii "-" ++ decimal (suc n)
 
 -- a line of a word, with its space, and a number
 abbrev pub word_line : List ℕ → ℕ → List ℕ

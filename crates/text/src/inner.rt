@@ -2,7 +2,7 @@
 // after its text. What a function requires is room for the longest text that it can make.
 ghost use Rattle.std.specs.Prelude.{◌+◌, ◌≤◌, ◌<◌, [], ◌∷◌, length};
 ghost use Rattle.text.specs.Inner.{Put};
-ghost use Rattle.text.specs.Text.{decimal, signedDecimal, word_line};
+ghost use Rattle.text.specs.Text.{decimal, signed_decimal, word_line};
 
 use signed::as_unsigned;
 
@@ -41,7 +41,7 @@ pub fn put_decimal(out: &mut [u8], at: usize, n: u64) -> usize
 // The bits of -m are those of 2^64 - m.
 pub fn put_signed(out: &mut [u8], at: usize, n: i64) -> usize
     requires { at + 21 ≤ length out.old }
-    ensures { Put out.old at (signedDecimal n) out.new result }
+    ensures { Put out.old at (signed_decimal n) out.new result }
 {
     let bits = as_unsigned(n);
     if n < 0 {

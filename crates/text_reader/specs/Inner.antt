@@ -2,7 +2,7 @@
 use Rattle.std.specs.Prelude.{ℕ, ◌+◌, ◌*◌, ◌^◌, ◌≤◌, ◌<◌, ◌≡◌, Bool, true, false, ◌||◌, List, [], ◌∷◌, eqb, ltb, length, drop}
 use Rattle.gorilla.specs.Parser.{read, refused}
 use Rattle.text_reader.specs.declared.Digits.{Digits}
-use Rattle.text_reader.specs.Digits.{isDigit, moreOf, digits}
+use Rattle.text_reader.specs.Digits.{is_digit, more_of, digits}
 use Rattle.text_reader.specs.Words.{word}
 
 -- a byte that passes the test stands first; or none does
@@ -17,7 +17,7 @@ Lacks t (x ∷ l) = t x ≡ false
 pub record DigitAt (s : List ℕ) (at d : ℕ) : Type 0 where
   pub inside : d ≤ 9 → at < length s
   pub there : d ≤ 9 → drop at s ≡ (48 + d) ∷ drop (at + 1) s
-  pub missing : 9 < d → Lacks isDigit (drop at s)
+  pub missing : 9 < d → Lacks is_digit (drop at s)
 
 abbrev pub one_of : ℕ → ℕ → ℕ → Bool
 one_of a b x = eqb x a || eqb x b
@@ -47,9 +47,9 @@ pub record Grown (a : Digits) (d : ℕ) (r : Digits) : Type 0 where
 -- all digits from a place on, and their number; the place after them is the place itself where no digit stands there, and only there
 pub record DigitsAt (s : List ℕ) (at : ℕ) (r : Digits) : Type 0 where
   pub number : ℕ
-  pub all : moreOf 0 (drop at s) ≡ read number (drop r.end s)
+  pub all : more_of 0 (drop at s) ≡ read number (drop r.end s)
   pub tells : Tells r number
   pub from : at ≤ r.end
   pub inside : r.end ≤ length s
-  pub some : at < r.end → (l : List ℕ) → digits l (drop at s) ≡ moreOf 0 (drop at s)
+  pub some : at < r.end → (l : List ℕ) → digits l (drop at s) ≡ more_of 0 (drop at s)
   pub none : r.end ≡ at → (l : List ℕ) → digits l (drop at s) ≡ refused l

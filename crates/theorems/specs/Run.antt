@@ -5,25 +5,25 @@ use Rattle.told.specs.Told.{Told, gave, refused}
 use Rattle.told.specs.Over.{over, filled}
 use Rattle.bit_lists.specs.BitList.{bits_of}
 use Rattle.gorilla.specs.Parser.{Read, read}
-use Rattle.gorilla.specs.Reading.{Pairs, pairsRead}
-use Rattle.limits.specs.Settings.{badSettings}
-use Rattle.fresh.specs.Fresh.{defaultCapacity, defaultIntervalSecs, newTable, configOf}
+use Rattle.gorilla.specs.Reading.{Pairs, pairs_read}
+use Rattle.limits.specs.Settings.{bad_settings}
+use Rattle.fresh.specs.Fresh.{default_capacity, default_interval_secs, new_table, config_of}
 use Rattle.tracker.specs.Rest.{rest_of}
 use Rattle.tracker.specs.declared.Seq.{Seq}
 use Rattle.tracker.specs.declared.Second.{Second}
 use Rattle.tracker.specs.declared.SequenceTracker.{SequenceTracker}
-use Rattle.offers.specs.Whole.{Table, whole, checkIn}
-use Rattle.offers.specs.Offer.{Outcome, offerTo, offeredTo}
-use Rattle.offers.specs.Rest.{offerRest}
+use Rattle.offers.specs.Whole.{Table, whole, check_in}
+use Rattle.offers.specs.Offer.{Outcome, offer_to, offered_to}
+use Rattle.offers.specs.Rest.{offer_rest}
 use Rattle.decoder.specs.Decode.{listed}
-use Rattle.restoring.specs.Restore.{readTable, restoreOf, restoreAt, Restores, RestoresAt}
-use Rattle.restoring.specs.Interval.{withInterval}
+use Rattle.restoring.specs.Restore.{read_table, restore_of, restore_at, Restores, RestoresAt}
+use Rattle.restoring.specs.Interval.{with_interval}
 use Rattle.restoring.specs.declared.Restored.TheVariants as restored
-use Rattle.theorems.specs.Alike.{keptIn, strictTo, saveTo, imageFor, KeptAlike, AnswerAlike}
+use Rattle.theorems.specs.Alike.{kept_in, strict_to, save_to, image_for, KeptAlike, AnswerAlike}
 
 -- as `new` makes it, in two arrays that hold what they hold
 abbrev pub new : List ℕ → List ℤ → Table
-new seqs secs = whole newTable seqs secs
+new seqs secs = whole new_table seqs secs
 
 -- ---- a strict save, and a restore of what it wrote
 
@@ -33,14 +33,14 @@ pub data Restoring : Type 0 where
   naming : ℕ → Restoring
 
 -- what it tells
-abbrev pub restoreBy : Restoring → List ℕ → List ℕ → List ℤ → Told SequenceTracker
-restoreBy plain = restoreOf
-restoreBy (naming interval) = restoreAt interval
+abbrev pub restore_by : Restoring → List ℕ → List ℕ → List ℤ → Told SequenceTracker
+restore_by plain = restore_of
+restore_by (naming interval) = restore_at interval
 
 -- the interval that it gives a table
-abbrev pub intervalBy : Restoring → ℕ
-intervalBy plain = defaultIntervalSecs
-intervalBy (naming interval) = interval
+abbrev pub interval_by : Restoring → ℕ
+interval_by plain = default_interval_secs
+interval_by (naming interval) = interval
 
 -- `out` is lent to the save, the bytes `following` stand after the image, and `seqs` and `secs` are lent to the restore; each holds what it holds
 pub record Reload : Type 0 where
@@ -51,27 +51,27 @@ pub record Reload : Type 0 where
   pub secs : List ℤ
 
 -- the bytes written to a buffer: as many as are told
-abbrev pub bytesWritten : Told ℕ → List ℕ → List ℕ
-bytesWritten (gave n) out = take n out
-bytesWritten (refused what) out = []
+abbrev pub bytes_written : Told ℕ → List ℕ → List ℕ
+bytes_written (gave n) out = take n out
+bytes_written (refused what) out = []
 
 -- the bytes that such a save writes, and others after them
 abbrev pub stored : (Table → List ℕ → Told ℕ) → Table → Reload → List ℕ
-stored save w l = bytesWritten (save w l.out) (filled (save w l.out) (imageFor w) l.out) ++ l.following
+stored save w l = bytes_written (save w l.out) (filled (save w l.out) (image_for w) l.out) ++ l.following
 
 -- what the restore tells of what a strict save wrote
-abbrev pub restoreTo : Table → Reload → Told SequenceTracker
-restoreTo w l = restoreBy l.by (stored strictTo w l) l.seqs l.secs
+abbrev pub restore_to : Table → Reload → Told SequenceTracker
+restore_to w l = restore_by l.by (stored strict_to w l) l.seqs l.secs
 
 -- the pairs that it reads
-abbrev pub readFor : Table → Reload → Pairs
-readFor w l = pairsRead (readTable (stored strictTo w l))
+abbrev pub read_for : Table → Reload → Pairs
+read_for w l = pairs_read (read_table (stored strict_to w l))
 
 -- the table after a strict save and a restore that tell this: a refused save leaves it standing; a refused restore leaves none, and a new one is begun
-abbrev pub reloadedTo : Table → Reload → Told ℕ → Told SequenceTracker → Table
-reloadedTo w l (refused what) told = w
-reloadedTo w l (gave n) (refused what) = new l.seqs l.secs
-reloadedTo w l (gave n) (gave t) = whole t (over (readFor w l).seqs l.seqs) (over (readFor w l).secs l.secs)
+abbrev pub reloaded_to : Table → Reload → Told ℕ → Told SequenceTracker → Table
+reloaded_to w l (refused what) told = w
+reloaded_to w l (gave n) (refused what) = new l.seqs l.secs
+reloaded_to w l (gave n) (gave t) = whole t (over (read_for w l).seqs l.seqs) (over (read_for w l).secs l.secs)
 
 -- ---- a run
 
@@ -81,25 +81,25 @@ pub data Event : Type 0 where
 
 -- the table after an event
 unfoldable pub step : Table → Event → Table
-step w (offered seq ts) = offeredTo w seq ts (offerTo w seq ts)
-step w (reloaded l) = reloadedTo w l (strictTo w l.out) (restoreTo w l)
+step w (offered seq ts) = offered_to w seq ts (offer_to w seq ts)
+step w (reloaded l) = reloaded_to w l (strict_to w l.out) (restore_to w l)
 
 -- the table after the events
-unfoldable pub ranTo : Table → List Event → Table
-ranTo w [] = w
-ranTo w (e ∷ es) = ranTo (step w e) es
+unfoldable pub ran_to : Table → List Event → Table
+ran_to w [] = w
+ran_to w (e ∷ es) = ran_to (step w e) es
 
 -- what the offers among the events are told
 unfoldable pub answers : Table → List Event → List (Told Outcome)
 answers w [] = []
-answers w (offered seq ts ∷ es) = offerTo w seq ts ∷ answers (step w (offered seq ts)) es
+answers w (offered seq ts ∷ es) = offer_to w seq ts ∷ answers (step w (offered seq ts)) es
 answers w (reloaded l ∷ es) = answers (step w (reloaded l)) es
 
 -- the offers alone
-unfoldable pub offersIn : List Event → List Event
-offersIn [] = []
-offersIn (offered seq ts ∷ es) = offered seq ts ∷ offersIn es
-offersIn (reloaded l ∷ es) = offersIn es
+unfoldable pub offers_in : List Event → List Event
+offers_in [] = []
+offers_in (offered seq ts ∷ es) = offered seq ts ∷ offers_in es
+offers_in (reloaded l ∷ es) = offers_in es
 
 -- two arrays of at least 8,192 places
 abbrev pub Lent : List ℕ → List ℤ → Type 0
@@ -109,60 +109,60 @@ Lent seqs secs = (8192 ≤ length seqs) × (8192 ≤ length secs)
 unfoldable pub Proper : ℕ → List Event → Type 0
 Proper interval [] = Unit {0}
 Proper interval (offered seq ts ∷ es) = (seq.0 < 2 ^ 64) × Proper interval es
-Proper interval (reloaded l ∷ es) = (intervalBy l.by ≡ interval) × Lent l.seqs l.secs × Proper interval es
+Proper interval (reloaded l ∷ es) = (interval_by l.by ≡ interval) × Lent l.seqs l.secs × Proper interval es
 
 -- ---- when a strict save is refused
 
 -- what the list reader reads of what the Rust's save wrote
-abbrev pub listedFor : Table → Reload → Read Pairs
-listedFor w l = listed (stored saveTo w l) l.seqs l.secs
+abbrev pub listed_for : Table → Reload → Read Pairs
+listed_for w l = listed (stored save_to w l) l.seqs l.secs
 
 -- other pairs than those that the table keeps
 abbrev pub ReadsOthers : Table → Reload → Type 0
-ReadsOthers w l = (p : Pairs) × (listedFor w l ≡ read p (bits_of l.following)) × (p ≡ keptIn w → ⊥)
+ReadsOthers w l = (p : Pairs) × (listed_for w l ≡ read p (bits_of l.following)) × (p ≡ kept_in w → ⊥)
 
 -- ---- the demand
 
 -- what is claimed of the table w that a run leads to, beside the table v that the offers alone lead to, where m more offers may come
 pub record Unharmed (m : ℕ) (w v : Table) : Type 0 where
   -- the table is good
-  pub good : checkIn w ≡ gave tt
+  pub good : check_in w ≡ gave tt
   -- the kept pairs, and the state but for its totals, with the last recorded second in it
-  pub pairs : keptIn w ≡ keptIn v
+  pub pairs : kept_in w ≡ kept_in v
   pub state : rest_of w.state ≡ rest_of v.state
   -- each later answer: offers and lists of offers, lookups, saves
   pub alike : AnswerAlike KeptAlike m w v
   -- a restore at a valid interval never refuses what a strict save wrote: it gives back the pairs, and the state with that interval in it and its totals at zero, so at the table's own
   -- interval the same state but for the totals
-  pub restores : (l : Reload) (n : ℕ) → badSettings defaultCapacity (intervalBy l.by) ≡ false → Lent l.seqs l.secs → strictTo w l.out ≡ gave n
-      → (restoreTo w l ≡ gave (withInterval (intervalBy l.by) w.state)) × (keptIn (step w (reloaded l)) ≡ keptIn w)
+  pub restores : (l : Reload) (n : ℕ) → bad_settings default_capacity (interval_by l.by) ≡ false → Lent l.seqs l.secs → strict_to w l.out ≡ gave n
+      → (restore_to w l ≡ gave (with_interval (interval_by l.by) w.state)) × (kept_in (step w (reloaded l)) ≡ kept_in w)
   -- with room for the image a strict save is refused at all exactly where what the Rust's save wrote reads back as other pairs, and then
   -- with 20; and it writes the image exactly where that reads back as the kept ones
-  pub exact : (l : Reload) → length (imageFor w) ≤ length l.out → Lent l.seqs l.secs
-      → (((what : List ℕ) × (strictTo w l.out ≡ refused what)) ↔ ReadsOthers w l)
-      × ((what : List ℕ) → strictTo w l.out ≡ refused what → get_or what 0 0 ≡ 20)
-      × ((strictTo w l.out ≡ gave (length (imageFor w))) ↔ (listedFor w l ≡ read (keptIn w) (bits_of l.following)))
+  pub exact : (l : Reload) → length (image_for w) ≤ length l.out → Lent l.seqs l.secs
+      → (((what : List ℕ) × (strict_to w l.out ≡ refused what)) ↔ ReadsOthers w l)
+      × ((what : List ℕ) → strict_to w l.out ≡ refused what → get_or what 0 0 ≡ 20)
+      × ((strict_to w l.out ≡ gave (length (image_for w))) ↔ (listed_for w l ≡ read (kept_in w) (bits_of l.following)))
 
 -- by any events from the table w on, with restores at this interval, and with m more offers to come, in all fewer than 2^64: but for the totals, each offer is told what it is told
 -- without the saves and restores, and the table is unharmed
 abbrev pub GoesOn : ℕ → Table → Type 0
-GoesOn interval w = (es : List Event) (m : ℕ) → Proper interval es → length (offersIn es) + m < 2 ^ 64
-    → (map offerRest (answers w es) ≡ map offerRest (answers w (offersIn es))) × Unharmed m (ranTo w es) (ranTo w (offersIn es))
+GoesOn interval w = (es : List Event) (m : ℕ) → Proper interval es → length (offers_in es) + m < 2 ^ 64
+    → (map offer_rest (answers w es) ≡ map offer_rest (answers w (offers_in es))) × Unharmed m (ran_to w es) (ran_to w (offers_in es))
 
 -- at capacity 8,192 and every interval that the calls take: from the table that `with_config` makes, with the state t, in any two arrays of at least 8,192 places; and
 -- from each table that `restore_with_interval` leaves, with the state t that it gives: of any bytes that it accepts, whoever wrote them
 abbrev pub Demand : Type 0
 Demand = (interval : ℕ)
-    → ((seqs : List ℕ) (secs : List ℤ) (t : SequenceTracker) → configOf defaultCapacity interval ≡ gave t → Lent seqs secs → GoesOn interval (whole t seqs secs))
+    → ((seqs : List ℕ) (secs : List ℤ) (t : SequenceTracker) → config_of default_capacity interval ≡ gave t → Lent seqs secs → GoesOn interval (whole t seqs secs))
     × ((bytes seqs seqs' : List ℕ) (secs secs' : List ℤ) (t : SequenceTracker) → RestoresAt interval bytes seqs secs (restored.Table t) seqs' secs' → GoesOn interval (whole t seqs' secs'))
 
 -- at the default settings, by themselves: from a new table, and from each table that `restore` leaves; the restores of the run may be `restore`, which is at the default interval
 abbrev pub DemandByDefault : Type 0
 DemandByDefault =
-    ((seqs : List ℕ) (secs : List ℤ) → Lent seqs secs → GoesOn defaultIntervalSecs (new seqs secs))
-    × ((bytes seqs seqs' : List ℕ) (secs secs' : List ℤ) (t : SequenceTracker) → Restores bytes seqs secs (restored.Table t) seqs' secs' → GoesOn defaultIntervalSecs (whole t seqs' secs'))
+    ((seqs : List ℕ) (secs : List ℤ) → Lent seqs secs → GoesOn default_interval_secs (new seqs secs))
+    × ((bytes seqs seqs' : List ℕ) (secs secs' : List ℤ) (t : SequenceTracker) → Restores bytes seqs secs (restored.Table t) seqs' secs' → GoesOn default_interval_secs (whole t seqs' secs'))
 
 -- the restores have to be at the table's own interval: with restores at another valid one no table that `with_config` makes at capacity 8,192 goes on so, as its state comes back with the other interval
 abbrev pub OwnIntervalNeeded : Type 0
-OwnIntervalNeeded = (interval other : ℕ) (seqs : List ℕ) (secs : List ℤ) (t : SequenceTracker) → configOf defaultCapacity interval ≡ gave t → Lent seqs secs
-    → badSettings defaultCapacity other ≡ false → (other ≡ interval → ⊥) → GoesOn other (whole t seqs secs) → ⊥
+OwnIntervalNeeded = (interval other : ℕ) (seqs : List ℕ) (secs : List ℤ) (t : SequenceTracker) → config_of default_capacity interval ≡ gave t → Lent seqs secs
+    → bad_settings default_capacity other ≡ false → (other ≡ interval → ⊥) → GoesOn other (whole t seqs secs) → ⊥

@@ -8,12 +8,12 @@ use Rattle.told.specs.Told.{refused}
 use Rattle.told.specs.Over.{over, filled}
 
 -- the values stand at its start, and past them what stood there
-pub over-starts : {A : Type 0} (l xs : List A) → take (length l) (over l xs) ≡ l
-over-starts l xs = take_at l _ (length l) refl
+pub over_starts : {A : Type 0} (l xs : List A) → take (length l) (over l xs) ≡ l
+over_starts l xs = take_at l _ (length l) refl
 
-pub over-keeps : {A : Type 0} (l xs : List A) → drop (length l) (over l xs) ≡ drop (length l) xs
-over-keeps l xs = drop_at l _ (length l) refl
+pub over_keeps : {A : Type 0} (l xs : List A) → drop (length l) (over l xs) ≡ drop (length l) xs
+over_keeps l xs = drop_at l _ (length l) refl
 
 -- refused, it is as before
-pub refused-keeps : {A : Type 0} (B : Type 0) (what : List ℕ) (values old : List A) → filled {B = B} (refused what) values old ≡ old
-refused-keeps B what values old = refl
+pub refused_keeps : {A : Type 0} (B : Type 0) (what : List ℕ) (values old : List A) → filled {B = B} (refused what) values old ≡ old
+refused_keeps B what values old = refl

@@ -6,11 +6,11 @@ use native.Mathlib.Omega.{arith}
 use Rattle.told.specs.Told.{Told, gave, refused}
 
 -- what is given is never a refusal, and refusals of two numbers are two
-pub given-not-refused : {A X : Type 0} {a : A} {l : List ℕ} → gave a ≡ refused l → X
-given-not-refused h = let z : ◌≡◌ {A = ℕ} 0 1 = cc in absurd (omega arith)
+pub given_not_refused : {A X : Type 0} {a : A} {l : List ℕ} → gave a ≡ refused l → X
+given_not_refused h = let z : ◌≡◌ {A = ℕ} 0 1 = cc in absurd (omega arith)
 
 pub same-list : {A : Type 0} {k l : List ℕ} → ◌≡◌ {A = Told A} (refused k) (refused l) → k ≡ l
 same-list h = cc
 
-pub same-gift : {A : Type 0} {a b : A} → gave a ≡ gave b → a ≡ b
-same-gift h = cc
+pub same_gift : {A : Type 0} {a b : A} → gave a ≡ gave b → a ≡ b
+same_gift h = cc

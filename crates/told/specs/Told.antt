@@ -7,6 +7,6 @@ pub data Told (A : Type 0) : Type 0 where
   refused : List ℕ → Told A
 
 -- a refusal stands; else what follows is told
-abbrev pub ifGood : {A : Type 0} → Told (Unit {0}) → Told A → Told A
-ifGood (gave _) next = next
-ifGood (refused what) next = refused what
+abbrev pub if_good : {A : Type 0} → Told (Unit {0}) → Told A → Told A
+if_good (gave _) next = next
+if_good (refused what) next = refused what

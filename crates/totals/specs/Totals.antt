@@ -5,8 +5,8 @@ use Rattle.totals.specs.declared.Fate.{Fate}
 use Rattle.totals.specs.declared.Fate.TheVariants.{Recorded, WentBack, TooSoon, Refused}
 
 -- as creation and restore set them
-abbrev pub noTotals : Totals
-noTotals = record { recorded = 0; went_back = 0; too_soon = 0; refused = 0 }
+abbrev pub no_totals : Totals
+no_totals = record { recorded = 0; went_back = 0; too_soon = 0; refused = 0 }
 
 -- how many offers they count
 abbrev pub sum_of : Totals → ℕ
@@ -17,16 +17,16 @@ abbrev pub most : ℕ
 most = 18446744073709551615
 
 -- they do not add up within 64 bits
-abbrev pub tooMany : Totals → Bool
-tooMany n = ltb most (sum_of n)
+abbrev pub too_many : Totals → Bool
+too_many n = ltb most (sum_of n)
 
 -- one more offer would pass 2^64-1
 abbrev pub full : Totals → Bool
 full n = ltb most (sum_of n + 1)
 
 -- one more offer, by what became of it
-abbrev pub oneMore : Fate → Totals → Totals
-oneMore Recorded n = record { recorded = n.recorded + 1; went_back = n.went_back; too_soon = n.too_soon; refused = n.refused }
-oneMore WentBack n = record { recorded = n.recorded; went_back = n.went_back + 1; too_soon = n.too_soon; refused = n.refused }
-oneMore TooSoon n = record { recorded = n.recorded; went_back = n.went_back; too_soon = n.too_soon + 1; refused = n.refused }
-oneMore Refused n = record { recorded = n.recorded; went_back = n.went_back; too_soon = n.too_soon; refused = n.refused + 1 }
+abbrev pub one_more : Fate → Totals → Totals
+one_more Recorded n = record { recorded = n.recorded + 1; went_back = n.went_back; too_soon = n.too_soon; refused = n.refused }
+one_more WentBack n = record { recorded = n.recorded; went_back = n.went_back + 1; too_soon = n.too_soon; refused = n.refused }
+one_more TooSoon n = record { recorded = n.recorded; went_back = n.went_back; too_soon = n.too_soon + 1; refused = n.refused }
+one_more Refused n = record { recorded = n.recorded; went_back = n.went_back; too_soon = n.too_soon; refused = n.refused + 1 }

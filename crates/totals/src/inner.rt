@@ -1,6 +1,6 @@
 // The totals before the first offer, with one more, and the two tests of their sum.
 ghost use Rattle.std.specs.Prelude.{◌≡◌, ◌+◌, ◌≤◌, ◌<◌};
-ghost use Rattle.totals.specs.Totals.{noTotals, sum_of, most, tooMany, full, oneMore};
+ghost use Rattle.totals.specs.Totals.{no_totals, sum_of, most, too_many, full, one_more};
 
 use crate::{Fate, Totals};
 
@@ -9,7 +9,7 @@ const MOST: u64 = 18446744073709551615;
 
 // Before the first offer.
 pub fn no_totals() -> Totals
-    ensures { result ≡ noTotals }
+    ensures { result ≡ no_totals }
 {
     Totals {
         recorded: 0,
@@ -21,7 +21,7 @@ pub fn no_totals() -> Totals
 
 // Whether they do not add up within 64 bits. Any four numbers may come in, so each is held to what the others leave, and no sum is made.
 pub fn too_many(totals: Totals) -> bool
-    ensures { result ≡ tooMany totals }
+    ensures { result ≡ too_many totals }
 {
     let after_recorded = MOST - totals.recorded;
     if totals.went_back > after_recorded {
@@ -45,7 +45,7 @@ pub fn full(totals: Totals) -> bool
 // With one more offer, by what became of it.
 pub fn one_more(totals: Totals, fate: Fate) -> Totals
     requires { sum_of totals < most }
-    ensures { result ≡ oneMore fate totals }
+    ensures { result ≡ one_more fate totals }
 {
     let recorded = totals.recorded;
     let went_back = totals.went_back;

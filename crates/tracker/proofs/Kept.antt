@@ -9,11 +9,11 @@ use lib.IntN.{ℤ, pos}
 use lib.ListN.{length, get_or, take}
 use lib.Seq.{get_or-take}
 use lib.Signed.{lt_z}
-use Rattle.limits.specs.Settings.{roomOf}
+use Rattle.limits.specs.Settings.{room_of}
 use Rattle.order.specs.First.{first}
-use Rattle.order.specs.Order.{drops, secOutside}
+use Rattle.order.specs.Order.{drops, sec_outside}
 use Rattle.order.proofs.First.{first-same}
-use Rattle.tracker.specs.Table.{kept, lastWrong, pairsOf, checkOf}
+use Rattle.tracker.specs.Table.{kept, last_wrong, pairs_of, check_of}
 use Rattle.tracker.specs.declared.SequenceTracker.{SequenceTracker}
 use Rattle.tracker.specs.declared.LastRecorded.{LastRecorded}
 use Rattle.tracker.specs.declared.LastRecorded.TheVariants.{Never, At}
@@ -26,21 +26,21 @@ module _ (n : ℕ) where
   kept-drop : {K : Type 0} (lt : K → K → Bool) (d : K) (xs ys : List K) → take n xs ≡ take n ys → first (drops lt d xs) n ≡ first (drops lt d ys) n
   kept-drop lt d xs ys e = first-same (drops lt d xs) (drops lt d ys) n (λ j l. rw (kept_at n xs ys j d e l, kept_at n xs ys (j - 1) d e (omega arith)))
 
-  kept-outside : (xs ys : List ℤ) → take n xs ≡ take n ys → first (secOutside xs) n ≡ first (secOutside ys) n
-  kept-outside xs ys e = first-same (secOutside xs) (secOutside ys) n (λ j l. rw (kept_at n xs ys j (pos 0) e l))
+  kept-outside : (xs ys : List ℤ) → take n xs ≡ take n ys → first (sec_outside xs) n ≡ first (sec_outside ys) n
+  kept-outside xs ys e = first-same (sec_outside xs) (sec_outside ys) n (λ j l. rw (kept_at n xs ys j (pos 0) e l))
 
-  pub pairs-kept : (seqs seqs' : List ℕ) (secs secs' : List ℤ) → take n seqs ≡ take n seqs' → take n secs ≡ take n secs' → pairsOf seqs secs n ≡ pairsOf seqs' secs' n
+  pub pairs-kept : (seqs seqs' : List ℕ) (secs secs' : List ℤ) → take n seqs ≡ take n seqs' → take n secs ≡ take n secs' → pairs_of seqs secs n ≡ pairs_of seqs' secs' n
   pairs-kept seqs seqs' secs secs' e f = rw (kept-drop ltb 0 seqs seqs' e, kept-drop lt_z (pos 0) secs secs' f, kept-outside secs secs' f)
 
 -- rule 14's part on the last recorded second
-last-kept : (l : LastRecorded) (n : ℕ) (secs secs' : List ℤ) → take n secs ≡ take n secs' → lastWrong l secs n ≡ lastWrong l secs' n
+last-kept : (l : LastRecorded) (n : ℕ) (secs secs' : List ℤ) → take n secs ≡ take n secs' → last_wrong l secs n ≡ last_wrong l secs' n
 last-kept Never n secs secs' e = refl
 last-kept (At s) zero secs secs' e = refl
 last-kept (At s) (suc m) secs secs' e = rw (kept_at (suc m) secs secs' (suc m - 1) (pos 0) e (omega arith))
 
 module _ (table : SequenceTracker) (seqs seqs' : List ℕ) (secs secs' : List ℤ) where
   pub check-kept : kept table seqs ≡ kept table seqs' → kept table secs ≡ kept table secs'
-      → ltb (length seqs) (roomOf table.capacity) ≡ ltb (length seqs') (roomOf table.capacity)
-      → ltb (length secs) (roomOf table.capacity) ≡ ltb (length secs') (roomOf table.capacity)
-      → checkOf table seqs secs ≡ checkOf table seqs' secs'
+      → ltb (length seqs) (room_of table.capacity) ≡ ltb (length seqs') (room_of table.capacity)
+      → ltb (length secs) (room_of table.capacity) ≡ ltb (length secs') (room_of table.capacity)
+      → check_of table seqs secs ≡ check_of table seqs' secs'
   check-kept e f p q = rw (p, q, last-kept table.last_recorded_ts table.count secs secs' f, pairs-kept table.count seqs seqs' secs secs' e f)

@@ -10,7 +10,7 @@ use lib.Dec.{eqb}
 use lib.ListN.{get_or}
 use Rattle.told.specs.Told.{Told, gave, refused}
 use Rattle.told.proofs.Unique.{same-list}
-use Rattle.tracker.specs.Refusal.{told, toldCheck}
+use Rattle.tracker.specs.Refusal.{told, told_check}
 use Rattle.tracker.specs.declared.Refusal.{Refusal}
 use Rattle.tracker.specs.declared.Refusal.TheVariants.{Disagrees, SequenceDrops, SecondDrops, SecondOutside, Settings, OfferedOutside, OfferedDrops, TotalsFull}
 use Rattle.tracker.specs.declared.Checked.{Checked}
@@ -20,8 +20,8 @@ use Rattle.tracker.specs.declared.Checked.TheVariants as checked
 pub undone : {A B : Type 0} (f : A → B) (g : B → A) → ((a : A) → g (f a) ≡ a) → (a b : A) → f a ≡ f b → a ≡ b
 undone f g back a b e = sym (back a) ∙ ap g e ∙ back b
 
-abbrev pub refusalOf : List ℕ → Refusal
-refusalOf l =
+abbrev pub refusal_of : List ℕ → Refusal
+refusal_of l =
     let number = get_or l 0 0 in
     let index = get_or l 1 0 in
     cond (eqb number 11) (SequenceDrops index)
@@ -32,7 +32,7 @@ refusalOf l =
     (cond (eqb number 16) OfferedOutside
     (cond (eqb number 17) OfferedDrops TotalsFull))))))
 
-pub refusal-back : (r : Refusal) → refusalOf (told r) ≡ r
+pub refusal-back : (r : Refusal) → refusal_of (told r) ≡ r
 refusal-back (SequenceDrops i) = refl
 refusal-back (SecondDrops i) = refl
 refusal-back (SecondOutside i) = refl
@@ -43,7 +43,7 @@ refusal-back OfferedDrops = refl
 refusal-back TotalsFull = refl
 
 pub table-told : (a b : Refusal) → told a ≡ told b → a ≡ b
-table-told a b h = undone told refusalOf refusal-back a b h
+table-told a b h = undone told refusal_of refusal-back a b h
 
 -- a refusal's number
 abbrev pub number : List ℕ → ℕ
@@ -63,14 +63,14 @@ table-number TotalsFull = (omega arith, inr refl)
 pub apart : {X : Type 0} {A : Type 0} (k l : List ℕ) → (number k ≡ number l → ⊥) → ◌≡◌ {A = Told A} (refused k) (refused l) → X
 apart k l differ e = absurd (differ (ap number (same-list e)))
 
-checkedOf : Told (Unit {0}) → Checked
-checkedOf (gave _) = checked.Good
-checkedOf (refused l) = checked.Refused (refusalOf l)
+checked_of : Told (Unit {0}) → Checked
+checked_of (gave _) = checked.Good
+checked_of (refused l) = checked.Refused (refusal_of l)
 
-pub one-check : (a b : Checked) → toldCheck a ≡ toldCheck b → a ≡ b
-unfolding checkedOf
-one-check = undone toldCheck checkedOf (λ c. back c)
+pub one-check : (a b : Checked) → told_check a ≡ told_check b → a ≡ b
+unfolding checked_of
+one-check = undone told_check checked_of (λ c. back c)
   where
-    back : (c : Checked) → checkedOf (toldCheck c) ≡ c
+    back : (c : Checked) → checked_of (told_check c) ≡ c
     back checked.Good = refl
     back (checked.Refused r) = ap checked.Refused (refusal-back r)

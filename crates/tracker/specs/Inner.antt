@@ -6,16 +6,16 @@ use Rattle.tracker.specs.declared.LastRecorded.{LastRecorded}
 use Rattle.tracker.specs.declared.LastRecorded.TheVariants.{Never, At}
 
 -- a last recorded second present with count 0 or absent otherwise
-abbrev pub lastMisplaced : LastRecorded → ℕ → Bool
-lastMisplaced Never count = not (eqb count 0)
-lastMisplaced (At s) count = eqb count 0
+abbrev pub last_misplaced : LastRecorded → ℕ → Bool
+last_misplaced Never count = not (eqb count 0)
+last_misplaced (At s) count = eqb count 0
 
 -- one out of domain
-abbrev pub lastOutside : LastRecorded → Bool
-lastOutside Never = false
-lastOutside (At s) = outside s.0
+abbrev pub last_outside : LastRecorded → Bool
+last_outside Never = false
+last_outside (At s) = outside s.0
 
 -- one below the last kept second
-abbrev pub lastBelow : LastRecorded → List ℤ → ℕ → Bool
-lastBelow Never secs count = false
-lastBelow (At s) secs count = lt_z s.0 (get_or secs (count - 1) (pos 0))
+abbrev pub last_below : LastRecorded → List ℤ → ℕ → Bool
+last_below Never secs count = false
+last_below (At s) secs count = lt_z s.0 (get_or secs (count - 1) (pos 0))

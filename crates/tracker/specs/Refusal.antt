@@ -20,11 +20,11 @@ told OfferedDrops = 17 ∷ []
 told TotalsFull = 31 ∷ []
 
 -- what a check tells
-abbrev pub toldCheck : Checked → Told (Unit {0})
-toldCheck checked.Good = gave tt
-toldCheck (checked.Refused r) = refused (told r)
+abbrev pub told_check : Checked → Told (Unit {0})
+told_check checked.Good = gave tt
+told_check (checked.Refused r) = refused (told r)
 
 -- what `with_config` tells
-abbrev pub toldMade : Made → Told SequenceTracker
-toldMade (made.Table t) = gave t
-toldMade (made.Refused r) = refused (told r)
+abbrev pub told_made : Made → Told SequenceTracker
+told_made (made.Table t) = gave t
+told_made (made.Refused r) = refused (told r)

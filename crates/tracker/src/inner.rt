@@ -1,14 +1,14 @@
 // What the crates above use, on arguments that they have judged before.
 ghost use Rattle.std.specs.Prelude.{◌≡◌, ◌≤◌, length};
-ghost use Rattle.tracker.specs.Refusal.{toldCheck};
-ghost use Rattle.tracker.specs.Table.{pairsOf};
+ghost use Rattle.tracker.specs.Refusal.{told_check};
+ghost use Rattle.tracker.specs.Table.{pairs_of};
 
 use crate::{Checked, Refusal};
 
 // The first n pairs: the order of the sequences, that of the seconds, then the domain.
 pub fn pairs(seqs: &[u64], secs: &[i64], n: usize) -> Checked
     requires { (n ≤ length seqs.now) × (n ≤ length secs.now) × (n ≤ 8192) }
-    ensures { toldCheck result ≡ pairsOf seqs.now secs.now n }
+    ensures { told_check result ≡ pairs_of seqs.now secs.now n }
 {
     let seq = order::inner::seq_drop(seqs, n);
     if seq < n {

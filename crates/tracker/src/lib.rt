@@ -1,8 +1,8 @@
 // The table of sequence numbers and seconds: its state, and what every call on a table checks. The pairs stand in two arrays
 // that the caller lends; the state says how many of them are kept.
 ghost use Rattle.std.specs.Prelude.{◌≡◌};
-ghost use Rattle.tracker.specs.Refusal.{toldCheck};
-ghost use Rattle.tracker.specs.Table.{checkOf};
+ghost use Rattle.tracker.specs.Refusal.{told_check};
+ghost use Rattle.tracker.specs.Table.{check_of};
 
 use totals::Totals;
 
@@ -66,7 +66,7 @@ pub enum Made {
 
 // What every call on a table checks first: that state and arrays agree, then the kept pairs.
 pub fn check(table: SequenceTracker, seqs: &[u64], secs: &[i64]) -> Checked
-    ensures { toldCheck result ≡ checkOf table seqs.now secs.now }
+    ensures { told_check result ≡ check_of table seqs.now secs.now }
 {
     if state::disagrees(table, seqs, secs) {
         return Checked::Refused(Refusal::Disagrees);

@@ -6,7 +6,7 @@ use crate::{LastRecorded, SequenceTracker};
 
 fn last_wrong(last: LastRecorded, secs: &[i64], n: usize) -> bool
     requires { n ≤ length secs.now }
-    ensures { result ≡ rules.lastWrong last secs.now n }
+    ensures { result ≡ rules.last_wrong last secs.now n }
 {
     match last {
         LastRecorded::Never => n != 0,

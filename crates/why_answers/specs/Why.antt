@@ -36,25 +36,25 @@ explained answer reason position below above = record {
 }
 
 -- the numbers of the reasons; a reason that has no position for the answer gives 0 there
-abbrev pub byReason : Answer → Reason → WhyAnswer
-byReason answer (Exact p) = explained answer 1 p Missing Missing
-byReason answer (RoundedUp below above) = explained answer 2 above below (At above)
-byReason answer (RoundedDown below above) = explained answer 3 below (At below) above
-byReason answer BeforeFirst = explained answer 4 0 Missing Missing
-byReason answer AfterLast = explained answer 5 0 Missing Missing
-byReason answer Empty = explained answer 6 0 Missing Missing
+abbrev pub by_reason : Answer → Reason → WhyAnswer
+by_reason answer (Exact p) = explained answer 1 p Missing Missing
+by_reason answer (RoundedUp below above) = explained answer 2 above below (At above)
+by_reason answer (RoundedDown below above) = explained answer 3 below (At below) above
+by_reason answer BeforeFirst = explained answer 4 0 Missing Missing
+by_reason answer AfterLast = explained answer 5 0 Missing Missing
+by_reason answer Empty = explained answer 6 0 Missing Missing
 
 -- refused, there is no reason: 0
-abbrev pub unexplainedBy : Answer → WhyAnswer
-unexplainedBy answer = explained answer 0 0 Missing Missing
+abbrev pub unexplained_by : Answer → WhyAnswer
+unexplained_by answer = explained answer 0 0 Missing Missing
 
-abbrev pub ofWhy : {A : Type 0} → (A → ℕ) → Told (Why A) → WhyAnswer
-ofWhy bits (gave w) = byReason (answer_of (0 ∷ found bits w.answer)) w.reason
-ofWhy bits (refused what) = unexplainedBy (answer_of what)
+abbrev pub of_why : {A : Type 0} → (A → ℕ) → Told (Why A) → WhyAnswer
+of_why bits (gave w) = by_reason (answer_of (0 ∷ found bits w.answer)) w.reason
+of_why bits (refused what) = unexplained_by (answer_of what)
 
 -- of `why_ts`, and of `why_seq`: the partner by its 64 bits
-abbrev pub ofWhyTs : Told (Why Second) → WhyAnswer
-ofWhyTs = ofWhy (λ s. pattern s.0)
+abbrev pub of_why_ts : Told (Why Second) → WhyAnswer
+of_why_ts = of_why (λ s. pattern s.0)
 
-abbrev pub ofWhySeq : Told (Why Seq) → WhyAnswer
-ofWhySeq = ofWhy (λ q. q.0)
+abbrev pub of_why_seq : Told (Why Seq) → WhyAnswer
+of_why_seq = of_why (λ q. q.0)

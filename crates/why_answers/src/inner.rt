@@ -1,7 +1,7 @@
 // The answers of `why_ts` and `why_seq` as numbers.
 ghost use Rattle.std.specs.Prelude.{◌≡◌};
-ghost use Rattle.explaining.specs.Why.{toldWhyTs, toldWhySeq};
-ghost use Rattle.why_answers.specs.Why.{mark_of, position_of, explained, unexplainedBy, byReason, ofWhyTs, ofWhySeq};
+ghost use Rattle.explaining.specs.Why.{told_why_ts, told_why_seq};
+ghost use Rattle.why_answers.specs.Why.{mark_of, position_of, explained, unexplained_by, by_reason, of_why_ts, of_why_seq};
 
 use crate::WhyAnswer;
 use answers::inner::answer;
@@ -53,7 +53,7 @@ fn explained_by(
 }
 
 fn by_reason(answer: Answer, reason: Reason) -> WhyAnswer
-    ensures { result ≡ byReason answer reason }
+    ensures { result ≡ by_reason answer reason }
 {
     let none = Neighbour::Missing;
     match reason {
@@ -72,13 +72,13 @@ fn by_reason(answer: Answer, reason: Reason) -> WhyAnswer
 
 // Refused, there is no reason.
 fn unexplained(answer: Answer) -> WhyAnswer
-    ensures { result ≡ unexplainedBy answer }
+    ensures { result ≡ unexplained_by answer }
 {
     explained_by(answer, 0, 0, Neighbour::Missing, Neighbour::Missing)
 }
 
 pub fn of_why_ts(why: WhyTs) -> WhyAnswer
-    ensures { result ≡ ofWhyTs (toldWhyTs why) }
+    ensures { result ≡ of_why_ts (told_why_ts why) }
 {
     match why {
         WhyTs::Answered(reason, s) => by_reason(answer(0, 1, as_unsigned(s.0), 0), reason),
@@ -88,7 +88,7 @@ pub fn of_why_ts(why: WhyTs) -> WhyAnswer
 }
 
 pub fn of_why_seq(why: WhySeq) -> WhyAnswer
-    ensures { result ≡ ofWhySeq (toldWhySeq why) }
+    ensures { result ≡ of_why_seq (told_why_seq why) }
 {
     match why {
         WhySeq::Answered(reason, q) => by_reason(answer(0, 1, q.0, 0), reason),

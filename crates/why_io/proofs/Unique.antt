@@ -3,9 +3,9 @@ use mathlib.Core.Path.{◌≡◌, sym, ◌∙◌}
 use mathlib.Core.List.{List}
 use Prim.Native.Nat.{ℕ}
 use Rattle.running.specs.Run.{Ran}
-use Rattle.running.proofs.Unique.{one-ran}
+use Rattle.running.proofs.Unique.{one_ran}
 use Rattle.why_io.specs.Run.{Explaining}
 use Rattle.input.specs.declared.once.Over.{Over}
 
-pub one-run : (o : Over) (input old x y : List ℕ) → Ran Explaining o input old x → Ran Explaining o input old y → x ≡ y
-one-run o input old x y h k = one-ran Explaining (λ i t u a b. a ∙ sym b) o input old x y h k
+pub one_run : (o : Over) (input old x y : List ℕ) → Ran Explaining o input old x → Ran Explaining o input old y → x ≡ y
+one_run o input old x y h k = one_ran Explaining (λ i t u a b. a ∙ sym b) o input old x y h k

@@ -3,7 +3,7 @@
 ghost use Rattle.std.specs.Prelude.{◌≤◌, length, take};
 ghost use Rattle.text.specs.Text.{Stands};
 ghost use Rattle.running.specs.Run.{Ran};
-ghost use Rattle.why_text.specs.Text.{whyText};
+ghost use Rattle.why_text.specs.Text.{why_text};
 ghost use Rattle.why_io.specs.Run.{Explaining};
 
 use input::Over;
@@ -16,7 +16,7 @@ pub const INPUT_ROOM: usize = 65537;
 // Puts the text for the first n bytes of `asked` into `text`, and answers its length.
 fn explain(asked: &[u8], n: usize, text: &mut [u8; TEXT_ROOM]) -> usize
     requires { n ≤ length asked.now }
-    ensures { Stands (whyText (take n asked.now)) text.old result text.new }
+    ensures { Stands (why_text (take n asked.now)) text.old result text.new }
 {
     why_text::why(&asked[..n], text)
 }

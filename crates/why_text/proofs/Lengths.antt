@@ -5,7 +5,7 @@ use mathlib.Core.List.{List}
 use lib.IntN.{ℤ}
 use lib.ListN.{length, length-append}
 use Rattle.told.specs.Told.{Told, gave, refused}
-use Rattle.text.specs.Text.{decimal, signedDecimal}
+use Rattle.text.specs.Text.{decimal, signed_decimal}
 use Rattle.text.proofs.Numbers.{decimal-length, signed-length}
 use Rattle.report.specs.Listing.{number_of}
 use Rattle.report.proofs.Answers.{refused-length}
@@ -13,43 +13,43 @@ use Rattle.tracker.specs.declared.SequenceTracker.{SequenceTracker}
 use Rattle.lookup.specs.Find.{Partner, partner, nothing}
 use Rattle.question_lines.specs.declared.Question.{Question}
 use Rattle.question_lines.specs.declared.Question.TheVariants.{BySeq, ByTime}
-use Rattle.explaining.specs.Why.{Why, whyTs, whySeq}
+use Rattle.explaining.specs.Why.{Why, why_ts, why_seq}
 use Rattle.explaining.specs.declared.Neighbour.{Neighbour}
 use Rattle.explaining.specs.declared.Neighbour.TheVariants.{At, Missing}
 use Rattle.explaining.specs.declared.Reason.{Reason}
 use Rattle.explaining.specs.declared.Reason.TheVariants.{Exact, RoundedUp, RoundedDown, BeforeFirst, AfterLast, Empty}
-use Rattle.why_text.specs.Words.{neighbourText, reasonText, answerText}
-use Rattle.why_text.specs.Text.{toldText, askedText, restoredText, restoredFrom, seqsFrom, secsFrom, imageText}
+use Rattle.why_text.specs.Words.{neighbour_text, reason_text, answer_text}
+use Rattle.why_text.specs.Text.{told_text, asked_text, restored_text, restored_from, seqs_from, secs_from, image_text}
 
-pub neighbour-length : (p : Neighbour) → length (neighbourText p) ≤ 20
-neighbour-length (At p) = decimal-length p
-neighbour-length Missing = omega arith
+pub neighbour_length : (p : Neighbour) → length (neighbour_text p) ≤ 20
+neighbour_length (At p) = decimal-length p
+neighbour_length Missing = omega arith
 
-pub reason-length : (r : Reason) → length (reasonText r) ≤ 64
+pub reason-length : (r : Reason) → length (reason_text r) ≤ 64
 reason-length (Exact p) = simp length-append (omega (arith, decimal-length p))
-reason-length (RoundedUp below above) = simp length-append (omega (arith, neighbour-length below, decimal-length above))
-reason-length (RoundedDown below above) = simp length-append (omega (arith, decimal-length below, neighbour-length above))
+reason-length (RoundedUp below above) = simp length-append (omega (arith, neighbour_length below, decimal-length above))
+reason-length (RoundedDown below above) = simp length-append (omega (arith, decimal-length below, neighbour_length above))
 reason-length BeforeFirst = omega arith
 reason-length AfterLast = omega arith
 reason-length Empty = omega arith
 
 module _ {A : Type 0} (number : A → List ℕ) (short : (a : A) → length (number a) ≤ 21) where
-  answer-length : (a : Partner A) → length (answerText number a) ≤ 21
+  answer-length : (a : Partner A) → length (answer_text number a) ≤ 21
   answer-length (partner a) = short a
   answer-length nothing = omega arith
 
-  told-length : (t : Told (Why A)) → length (toldText number t) ≤ 128
+  told-length : (t : Told (Why A)) → length (told_text number t) ≤ 128
   told-length (gave w) = simp length-append (omega (arith, reason-length w.reason, answer-length w.answer))
   told-length (refused told) = omega (arith, refused-length (number_of told))
 
-asked-length : (q : Question) (table : SequenceTracker) (seqs : List ℕ) (secs : List ℤ) → length (askedText q table seqs secs) ≤ 128
-asked-length (BySeq seq opt) table seqs secs = told-length (λ s. signedDecimal s.0) (λ s. signed-length s.0) (whyTs table seqs secs seq opt)
-asked-length (ByTime ts opt) table seqs secs = told-length (λ q. decimal q.0) (λ q. omega (arith, decimal-length q.0)) (whySeq table seqs secs ts opt)
+asked_length : (q : Question) (table : SequenceTracker) (seqs : List ℕ) (secs : List ℤ) → length (asked_text q table seqs secs) ≤ 128
+asked_length (BySeq seq opt) table seqs secs = told-length (λ s. signed_decimal s.0) (λ s. signed-length s.0) (why_ts table seqs secs seq opt)
+asked_length (ByTime ts opt) table seqs secs = told-length (λ q. decimal q.0) (λ q. omega (arith, decimal-length q.0)) (why_seq table seqs secs ts opt)
 
-restored-length : (q : Question) (t : Told SequenceTracker) (seqs : List ℕ) (secs : List ℤ) → length (restoredText q t seqs secs) ≤ 128
-restored-length q (gave table) seqs secs = asked-length q table seqs secs
-restored-length q (refused told) seqs secs = omega (arith, refused-length (number_of told))
+restored_length : (q : Question) (t : Told SequenceTracker) (seqs : List ℕ) (secs : List ℤ) → length (restored_text q t seqs secs) ≤ 128
+restored_length q (gave table) seqs secs = asked_length q table seqs secs
+restored_length q (refused told) seqs secs = omega (arith, refused-length (number_of told))
 
-pub image-length : (q : Question) (image : List ℕ) → length (imageText q image) ≤ 128
-unfolding imageText
-image-length q image = restored-length q (restoredFrom image) (seqsFrom image) (secsFrom image)
+pub image_length : (q : Question) (image : List ℕ) → length (image_text q image) ≤ 128
+unfolding image_text
+image_length q image = restored_length q (restored_from image) (seqs_from image) (secs_from image)

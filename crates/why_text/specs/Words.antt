@@ -10,23 +10,23 @@ use Rattle.explaining.specs.declared.Reason.{Reason}
 use Rattle.explaining.specs.declared.Reason.TheVariants.{Exact, RoundedUp, RoundedDown, BeforeFirst, AfterLast, Empty}
 
 -- a neighbouring position, or `none`
-abbrev pub neighbourText : Neighbour → List ℕ
-neighbourText (At p) = decimal p
-neighbourText Missing = ascii "none"
+abbrev pub neighbour_text : Neighbour → List ℕ
+neighbour_text (At p) = decimal p
+neighbour_text Missing = ascii "none"
 
 -- the word of a reason, and the positions that it names, the lower one first
-abbrev pub reasonText : Reason → List ℕ
-reasonText (Exact p) = ascii "exact " ++ decimal p
-reasonText (RoundedUp below above) = ascii "rounded-up " ++ neighbourText below ++ ascii " " ++ decimal above
-reasonText (RoundedDown below above) = ascii "rounded-down " ++ decimal below ++ ascii " " ++ neighbourText above
-reasonText BeforeFirst = ascii "before-first"
-reasonText AfterLast = ascii "after-last"
-reasonText Empty = ascii "empty"
+abbrev pub reason_text : Reason → List ℕ
+reason_text (Exact p) = ascii "exact " ++ decimal p
+reason_text (RoundedUp below above) = ascii "rounded-up " ++ neighbour_text below ++ ascii " " ++ decimal above
+reason_text (RoundedDown below above) = ascii "rounded-down " ++ decimal below ++ ascii " " ++ neighbour_text above
+reason_text BeforeFirst = ascii "before-first"
+reason_text AfterLast = ascii "after-last"
+reason_text Empty = ascii "empty"
 
 -- an answer's number, or `none`
-abbrev pub answerText : {A : Type 0} → (A → List ℕ) → Partner A → List ℕ
-answerText number (partner a) = number a
-answerText number nothing = ascii "none"
+abbrev pub answer_text : {A : Type 0} → (A → List ℕ) → Partner A → List ℕ
+answer_text number (partner a) = number a
+answer_text number nothing = ascii "none"
 
-abbrev pub whyLine : {A : Type 0} → (A → List ℕ) → Why A → List ℕ
-whyLine number w = reasonText w.reason ++ ascii " " ++ answerText number w.answer ++ ascii "\n"
+abbrev pub why_line : {A : Type 0} → (A → List ℕ) → Why A → List ℕ
+why_line number w = reason_text w.reason ++ ascii " " ++ answer_text number w.answer ++ ascii "\n"

@@ -2,8 +2,8 @@
 ghost use Rattle.std.specs.Prelude.{◌≤◌, length};
 ghost use Rattle.text.specs.Text.{Stands};
 ghost use Rattle.text.specs.Inner.{Put};
-ghost use Rattle.restoring.specs.Restore.{toldRestore};
-ghost use Rattle.why_text.specs.Text.{askedText, restoredText, imageText, whyText};
+ghost use Rattle.restoring.specs.Restore.{told_restore};
+ghost use Rattle.why_text.specs.Text.{asked_text, restored_text, image_text, why_text};
 
 mod lines; // lines.rt: the line of an answer
 mod number; // number.rt: the number of a table's refusal
@@ -30,7 +30,7 @@ fn put_asked(
     secs: &[i64],
 ) -> usize
     requires { 128 ≤ length out.old }
-    ensures { Put out.old 0 (askedText q table seqs.now secs.now) out.new result }
+    ensures { Put out.old 0 (asked_text q table seqs.now secs.now) out.new result }
 {
     match q {
         Question::BySeq(seq, find_opt) => {
@@ -51,7 +51,7 @@ fn put_restored(
     secs: &[i64],
 ) -> usize
     requires { 128 ≤ length out.old }
-    ensures { Put out.old 0 (restoredText q (toldRestore restored) seqs.now secs.now) out.new result }
+    ensures { Put out.old 0 (restored_text q (told_restore restored) seqs.now secs.now) out.new result }
 {
     match restored {
         Restored::Table(table) => put_asked(out, q, table, seqs, secs),
@@ -63,7 +63,7 @@ fn put_restored(
 // The question asked of the table that an image holds.
 fn put_of_image(out: &mut [u8], image: &[u8], q: Question) -> usize
     requires { 128 ≤ length out.old }
-    ensures { Put out.old 0 (imageText q image.now) out.new result }
+    ensures { Put out.old 0 (image_text q image.now) out.new result }
 {
     let mut seqs = [0u64; 8192];
     let mut secs = [0i64; 8192];
@@ -73,7 +73,7 @@ fn put_of_image(out: &mut [u8], image: &[u8], q: Question) -> usize
 
 // Puts the text for the bytes of `input` at the start of `out`, and answers its length.
 pub fn why(input: &[u8], out: &mut [u8; TEXT_ROOM]) -> usize
-    ensures { Stands (whyText input.now) out.old result out.new }
+    ensures { Stands (why_text input.now) out.old result out.new }
 {
     if input.len() > MOST_INPUT {
         return put_refused(out, 22);

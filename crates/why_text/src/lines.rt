@@ -2,10 +2,10 @@
 ghost use Rattle.std.specs.Prelude.{◌+◌, ◌≤◌, ◌++◌, length};
 ghost use Rattle.text.specs.Ascii.{ascii};
 ghost use Rattle.text.specs.Inner.{Put};
-ghost use Rattle.text.specs.Text.{decimal, signedDecimal};
-ghost use Rattle.explaining.specs.Why.{toldWhyTs, toldWhySeq};
-ghost use Rattle.why_text.specs.Words.{neighbourText, reasonText};
-ghost use Rattle.why_text.specs.Text.{toldText};
+ghost use Rattle.text.specs.Text.{decimal, signed_decimal};
+ghost use Rattle.explaining.specs.Why.{told_why_ts, told_why_seq};
+ghost use Rattle.why_text.specs.Words.{neighbour_text, reason_text};
+ghost use Rattle.why_text.specs.Text.{told_text};
 
 use crate::number::table_number;
 use explaining::{Neighbour, Reason, WhySeq, WhyTs};
@@ -15,7 +15,7 @@ use text::inner::{put_byte, put_bytes, put_decimal, put_signed};
 // 20 bytes at most.
 fn put_neighbour(out: &mut [u8], at: usize, neighbour: Neighbour) -> usize
     requires { at + 20 ≤ length out.old }
-    ensures { Put out.old at (neighbourText neighbour) out.new result }
+    ensures { Put out.old at (neighbour_text neighbour) out.new result }
 {
     match neighbour {
         Neighbour::At(p) => put_decimal(out, at, p as u64),
@@ -35,7 +35,7 @@ fn put_exact(out: &mut [u8], p: usize) -> usize
 // 52 bytes at most.
 fn put_rounded_up(out: &mut [u8], below: Neighbour, above: usize) -> usize
     requires { 128 ≤ length out.old }
-    ensures { Put out.old 0 (ascii "rounded-up " ++ neighbourText below ++ ascii " " ++ decimal above) out.new result }
+    ensures { Put out.old 0 (ascii "rounded-up " ++ neighbour_text below ++ ascii " " ++ decimal above) out.new result }
 {
     let a = put_bytes(out, 0, b"rounded-up ");
     let b = put_neighbour(out, a, below);
@@ -46,7 +46,7 @@ fn put_rounded_up(out: &mut [u8], below: Neighbour, above: usize) -> usize
 // 54 bytes at most.
 fn put_rounded_down(out: &mut [u8], below: usize, above: Neighbour) -> usize
     requires { 128 ≤ length out.old }
-    ensures { Put out.old 0 (ascii "rounded-down " ++ decimal below ++ ascii " " ++ neighbourText above) out.new result }
+    ensures { Put out.old 0 (ascii "rounded-down " ++ decimal below ++ ascii " " ++ neighbour_text above) out.new result }
 {
     let a = put_bytes(out, 0, b"rounded-down ");
     let b = put_decimal(out, a, below as u64);
@@ -56,7 +56,7 @@ fn put_rounded_down(out: &mut [u8], below: usize, above: Neighbour) -> usize
 
 fn put_reason(out: &mut [u8], reason: Reason) -> usize
     requires { 128 ≤ length out.old }
-    ensures { Put out.old 0 (reasonText reason) out.new result }
+    ensures { Put out.old 0 (reason_text reason) out.new result }
 {
     match reason {
         Reason::Exact(p) => put_exact(out, p),
@@ -71,7 +71,7 @@ fn put_reason(out: &mut [u8], reason: Reason) -> usize
 // A second under its reason.
 fn put_second(out: &mut [u8], reason: Reason, s: i64) -> usize
     requires { 128 ≤ length out.old }
-    ensures { Put out.old 0 (reasonText reason ++ ascii " " ++ signedDecimal s ++ ascii "\n") out.new result }
+    ensures { Put out.old 0 (reason_text reason ++ ascii " " ++ signed_decimal s ++ ascii "\n") out.new result }
 {
     let a = put_reason(out, reason);
     let b = put_byte(out, a, b' ');
@@ -82,7 +82,7 @@ fn put_second(out: &mut [u8], reason: Reason, s: i64) -> usize
 // A sequence under its reason.
 fn put_seq(out: &mut [u8], reason: Reason, q: u64) -> usize
     requires { 128 ≤ length out.old }
-    ensures { Put out.old 0 (reasonText reason ++ ascii " " ++ decimal q ++ ascii "\n") out.new result }
+    ensures { Put out.old 0 (reason_text reason ++ ascii " " ++ decimal q ++ ascii "\n") out.new result }
 {
     let a = put_reason(out, reason);
     let b = put_byte(out, a, b' ');
@@ -93,7 +93,7 @@ fn put_seq(out: &mut [u8], reason: Reason, q: u64) -> usize
 // Nothing, under its reason.
 fn put_none(out: &mut [u8], reason: Reason) -> usize
     requires { 128 ≤ length out.old }
-    ensures { Put out.old 0 (reasonText reason ++ ascii " " ++ ascii "none" ++ ascii "\n") out.new result }
+    ensures { Put out.old 0 (reason_text reason ++ ascii " " ++ ascii "none" ++ ascii "\n") out.new result }
 {
     let a = put_reason(out, reason);
     put_bytes(out, a, b" none\n")
@@ -101,7 +101,7 @@ fn put_none(out: &mut [u8], reason: Reason) -> usize
 
 pub fn put_why_ts(out: &mut [u8], why: WhyTs) -> usize
     requires { 128 ≤ length out.old }
-    ensures { Put out.old 0 (toldText (λ s. signedDecimal s.0) (toldWhyTs why)) out.new result }
+    ensures { Put out.old 0 (told_text (λ s. signed_decimal s.0) (told_why_ts why)) out.new result }
 {
     match why {
         WhyTs::Answered(reason, s) => put_second(out, reason, s.0),
@@ -112,7 +112,7 @@ pub fn put_why_ts(out: &mut [u8], why: WhyTs) -> usize
 
 pub fn put_why_seq(out: &mut [u8], why: WhySeq) -> usize
     requires { 128 ≤ length out.old }
-    ensures { Put out.old 0 (toldText (λ q. decimal q.0) (toldWhySeq why)) out.new result }
+    ensures { Put out.old 0 (told_text (λ q. decimal q.0) (told_why_seq why)) out.new result }
 {
     match why {
         WhySeq::Answered(reason, q) => put_seq(out, reason, q.0),

@@ -37,7 +37,7 @@ use denote.Triple.Table.{entered, cited}
 use denote.Triple.Walked.{says, Stays, stay_none, stay_none_slice, walk_of, Goes-none, Goes-none_slice, Walks, ends_at, walked, walk_Meets}
 use denote.Exit.{yes}
 use denote.Triple.Clauses.{ensured, lasts}
-use Rattle.bits.specs.Read.{Piece, toldRead, readRule}
+use Rattle.bits.specs.Read.{Piece, told_read, read_rule}
 use Rattle.told.specs.Told.{Told}
 use Rattle.bits.specs.declared.Place.{Place}
 use Rattle.bit_reader.specs.declared.BitReader.{BitReader}
@@ -95,7 +95,7 @@ module _ {M : Type 1} {𝓤 : Ura M} (𝓛 : Logic 𝓤) (mem : Memory → SProp
   d₁ = record { buf = s; byte_pos = p.byte; bit_pos = p.bit }
 
   abbrev found : Told Piece
-  found = readRule s.now p k
+  found = read_rule s.now p k
 
   -- the struct's type as a local of a body has it
   abbrev αᵉ : NamedLft
@@ -121,37 +121,37 @@ module _ {M : Type 1} {𝓤 : Ura M} (𝓛 : Logic 𝓤) (mem : Memory → SProp
   OwnRest = fsep ((P.the_row).own_val p (P'.lowered p ∷ [])) (fsep (u8.own_val k (vint w8 k ∷ [])) ftrue)
 
   -- each call: what it is passed, that the caller has what it asks, and what is known of its result
-  abbrev to-new : (New 𝓛 mem run).Ghost
-  to-new = (((κ, tt), (q, tt), tt, (s, tt), (v ∷ [], tt)), tt)
+  abbrev to_new : (New 𝓛 mem run).Ghost
+  to_new = (((κ, tt), (q, tt), tt, (s, tt), (v ∷ [], tt)), tt)
 
-  goes-new : ent 𝓤 (⋆ 𝓛 ((‵ (flft κ q) ⊛ ‵ ftrue) ∷ ‵ OwnS ∷ [])) ((New 𝓛 mem run).pre to-new)
-  goes-new = qed 𝓛 ((‵ (flft κ q) ⊛ ‵ ftrue) ∷ ‵ OwnS ∷ []) ∵ nothing ! $ move ! (2 ∷ 0 ∷ []) $ fjoin ! $ move ! (1 ∷ 0 ∷ []) $ join ! $ frame ! $ done !
+  goes_new : ent 𝓤 (⋆ 𝓛 ((‵ (flft κ q) ⊛ ‵ ftrue) ∷ ‵ OwnS ∷ [])) ((New 𝓛 mem run).pre to_new)
+  goes_new = qed 𝓛 ((‵ (flft κ q) ⊛ ‵ ftrue) ∷ ‵ OwnS ∷ []) ∵ nothing ! $ move ! (2 ∷ 0 ∷ []) $ fjoin ! $ move ! (1 ∷ 0 ∷ []) $ join ! $ frame ! $ done !
 
-  new-said : (r : BitReader) → ent 𝓤 (ensured 𝓛 new.ended (new.clauses 𝓛 mem run) (κ, tt) (s, tt) tt r) (fact 𝓤 (r ≡ d₀))
-  new-said r = ex_e 𝓤 _ (λ ws. snd∗ 𝓤 (sem 𝓛 (lasts new.ended (κ, tt) (s, tt) ws)) (fact 𝓤 (r ≡ d₀)))
+  new_said : (r : BitReader) → ent 𝓤 (ensured 𝓛 new.ended (new.clauses 𝓛 mem run) (κ, tt) (s, tt) tt r) (fact 𝓤 (r ≡ d₀))
+  new_said r = ex_e 𝓤 _ (λ ws. snd∗ 𝓤 (sem 𝓛 (lasts new.ended (κ, tt) (s, tt) ws)) (fact 𝓤 (r ≡ d₀)))
 
-  abbrev to-moved : Val → (Moved 𝓛 mem run).Ghost
-  to-moved u = (((κ, tt), (q, tt), tt, (d₀, (p, tt)), (u ∷ [], (P'.lowered p ∷ [], tt))), tt)
+  abbrev to_moved : Val → (Moved 𝓛 mem run).Ghost
+  to_moved u = (((κ, tt), (q, tt), tt, (d₀, (p, tt)), (u ∷ [], (P'.lowered p ∷ [], tt))), tt)
 
-  goes_moved : (u : Val) → ent 𝓤 (⋆ 𝓛 (‵ (Own κ d₀ u) ∷ (‵ (flft κ q) ⊛ ‵ ftrue) ∷ [])) ((Moved 𝓛 mem run).pre (to-moved u))
+  goes_moved : (u : Val) → ent 𝓤 (⋆ 𝓛 (‵ (Own κ d₀ u) ∷ (‵ (flft κ q) ⊛ ‵ ftrue) ∷ [])) ((Moved 𝓛 mem run).pre (to_moved u))
   goes_moved u =
       qed 𝓛 (‵ (Own κ d₀ u) ∷ (‵ (flft κ q) ⊛ ‵ ftrue) ∷ []) ∵ nothing ! $ owned ! P.the_row (Is P.the_row) (LL.makes P.the_type P'.the_plain 𝓛) p _ is-p $ fjoin ! $
       move ! (1 ∷ 0 ∷ []) $ fjoin ! $ move ! (1 ∷ 0 ∷ []) $ join ! $ frame ! $ done !
 
-  moved-said : (r : BitReader) → ent 𝓤 (ensured 𝓛 moved.ended (moved.clauses 𝓛 mem run) (κ, tt) (d₀, (p, tt)) tt r) (fact 𝓤 (r ≡ d₁))
-  moved-said r = ex_e 𝓤 _ (λ ws. snd∗ 𝓤 (sem 𝓛 (lasts moved.ended (κ, tt) (d₀, (p, tt)) ws)) (fact 𝓤 (r ≡ d₁)))
+  moved_said : (r : BitReader) → ent 𝓤 (ensured 𝓛 moved.ended (moved.clauses 𝓛 mem run) (κ, tt) (d₀, (p, tt)) tt r) (fact 𝓤 (r ≡ d₁))
+  moved_said r = ex_e 𝓤 _ (λ ws. snd∗ 𝓤 (sem 𝓛 (lasts moved.ended (κ, tt) (d₀, (p, tt)) ws)) (fact 𝓤 (r ≡ d₁)))
 
   abbrev to_read : Val → (Rd 𝓛 mem run).Ghost
   to_read u = (((κ, tt), (q, tt), tt, (d₁, (k, tt)), (u ∷ [], (vint w8 k ∷ [], tt))), tt)
 
-  goes-read : (u : Val) → ent 𝓤 (⋆ 𝓛 (‵ (Own κ d₁ u) ∷ (‵ (flft κ q) ⊛ ‵ ftrue) ∷ [])) ((Rd 𝓛 mem run).pre (to_read u))
-  goes-read u =
+  goes_read : (u : Val) → ent 𝓤 (⋆ 𝓛 (‵ (Own κ d₁ u) ∷ (‵ (flft κ q) ⊛ ‵ ftrue) ∷ [])) ((Rd 𝓛 mem run).pre (to_read u))
+  goes_read u =
       qed 𝓛 (‵ (Own κ d₁ u) ∷ (‵ (flft κ q) ⊛ ‵ ftrue) ∷ []) ∵ nothing ! $ owned ! u8 (Is u8) (uint_Makes 𝓛 w8) k _ (refl, k-fits) $ fjoin ! $ move ! (1 ∷ 0 ∷ []) $ fjoin ! $ move ! (1 ∷ 0 ∷ []) $ join ! $ frame ! $ done !
 
-  read-said : (r : BitsRead) → ent 𝓤 (ensured 𝓛 rd.ended (rd.clauses 𝓛 mem run) (κ, tt) (d₁, (k, tt)) tt r) (fact 𝓤 (toldRead r ≡ found))
-  read-said r = ex_e 𝓤 _ (λ ws. snd∗ 𝓤 (sem 𝓛 (lasts rd.ended (κ, tt) (d₁, (k, tt)) ws)) (fact 𝓤 (toldRead r ≡ found)))
+  read_said : (r : BitsRead) → ent 𝓤 (ensured 𝓛 rd.ended (rd.clauses 𝓛 mem run) (κ, tt) (d₁, (k, tt)) tt r) (fact 𝓤 (told_read r ≡ found))
+  read_said r = ex_e 𝓤 _ (λ ws. snd∗ 𝓤 (sem 𝓛 (lasts rd.ended (κ, tt) (d₁, (k, tt)) ws)) (fact 𝓤 (told_read r ≡ found)))
 
-  exits : (r : BitsRead) (u : Val) → toldRead r ≡ found → ent 𝓤 (⋆ 𝓛 (‵ ((S.the_row).own_val r (u ∷ [])) ∷ (‵ (flft κ q) ⊛ ‵ ftrue) ∷ ‵ OwnS ∷ ‵ OwnRest ∷ [])) (Post u)
+  exits : (r : BitsRead) (u : Val) → told_read r ≡ found → ent 𝓤 (⋆ 𝓛 (‵ ((S.the_row).own_val r (u ∷ [])) ∷ (‵ (flft κ q) ⊛ ‵ ftrue) ∷ ‵ OwnS ∷ ‵ OwnRest ∷ [])) (Post u)
   exits r u e =
       qed 𝓛 (‵ ((S.the_row).own_val r (u ∷ [])) ∷ (‵ (flft κ q) ⊛ ‵ ftrue) ∷ ‵ OwnS ∷ ‵ OwnRest ∷ []) ∵
       suffices ! _ (ends_at 𝓛 read-from.ended stayed (read-from.clauses 𝓛 mem run) (((κ, tt), (q, tt), tt, a, at), tt) u r (tt, (tt, (tt, tt))) (tt, (tt, (tt, tt)))) $ says ! e $
@@ -166,25 +166,25 @@ module _ {M : Type 1} {𝓤 : Ura M} (𝓛 : Logic 𝓤) (mem : Memory → SProp
         -- [_5; …; _4; …; _3; …; _2; …; _1; …; room for _0; …; the token; what s, the place and the width own]: a copy of what s owns goes into the reader
         move ! (13 ∷ []) $ fsplit ! $ use1 𝓛 (‵ OwnS ⊛ ‵ OwnS) ((shr_slice_copy 𝓛 (named 0) κ u8).twice s (v ∷ [])) $ split ! $ move ! (15 ∷ 0 ∷ []) $
         -- `new`
-        use2 𝓛 (raw ((New 𝓛 mem run).pre to-new)) goes-new $
-        calls_at ! fm (New 𝓛 mem run) known-new to-new (and_then ! (load ! (from ! (stop !)) (look ! 11 refl)) (no_more !)) (λ u₀.
+        use2 𝓛 (raw ((New 𝓛 mem run).pre to_new)) goes_new $
+        calls_at ! fm (New 𝓛 mem run) known-new to_new (and_then ! (load ! (from ! (stop !)) (look ! 11 refl)) (no_more !)) (λ u₀.
         use1 𝓛 (later (some (λ (r : BitReader). ((‵ (flft κ q) ⊛ ‵ ftrue) ⊛ ‵ (Own κ r u₀)) ⊛ raw (ensured 𝓛 new.ended (new.clauses 𝓛 mem run) (κ, tt) (s, tt) tt r)))) (id⊢ 𝓤 _) $ await ! tt $ pick ! (λ r₀.
-        split ! $ move ! (1 ∷ []) $ use1 𝓛 (raw (fact 𝓤 (r₀ ≡ d₀))) (new-said r₀) $ heard ! (r₀ ≡ d₀) (λ e₀. split ! $ rewrite ! 1 (λ (h : BitReader). ‵ (Own κ h u₀)) e₀ refl $ move ! (1 ∷ []) $
+        split ! $ move ! (1 ∷ []) $ use1 𝓛 (raw (fact 𝓤 (r₀ ≡ d₀))) (new_said r₀) $ heard ! (r₀ ≡ d₀) (λ e₀. split ! $ rewrite ! 1 (λ (h : BitReader). ‵ (Own κ h u₀)) e₀ refl $ move ! (1 ∷ []) $
         -- [the reader; the token; what s owns; the place's and the width's; _5; …]
         peeks ! (B (κ, tt)) (Is (B (κ, tt))) (shows 𝓛 (B (κ, tt))) d₀ (u₀ ∷ []) (λ is₀.
         land ! (from ! (stop !)) (init ! 4 refl ((LL.lawful (T.the_type αᵉ) (T'.the_laws αᵉ) 𝓛).typed d₀ _ is₀).0) $
         -- `moved`
-        use2 𝓛 (raw ((Moved 𝓛 mem run).pre (to-moved u₀))) (goes_moved u₀) $
-        calls_at ! fm (Moved 𝓛 mem run) known-moved (to-moved u₀) (and_then ! (load ! (from ! (stop !)) (look ! 3 refl)) (and_then ! (load ! (from ! (stop !)) (look ! 9 refl)) (no_more !))) (λ u₁.
+        use2 𝓛 (raw ((Moved 𝓛 mem run).pre (to_moved u₀))) (goes_moved u₀) $
+        calls_at ! fm (Moved 𝓛 mem run) known-moved (to_moved u₀) (and_then ! (load ! (from ! (stop !)) (look ! 3 refl)) (and_then ! (load ! (from ! (stop !)) (look ! 9 refl)) (no_more !))) (λ u₁.
         use1 𝓛 (later (some (λ (r : BitReader). ((‵ (flft κ q) ⊛ ‵ ftrue) ⊛ ‵ (Own κ r u₁)) ⊛ raw (ensured 𝓛 moved.ended (moved.clauses 𝓛 mem run) (κ, tt) (d₀, (p, tt)) tt r)))) (id⊢ 𝓤 _) $ await ! tt $ pick ! (λ r₁.
-        split ! $ move ! (1 ∷ []) $ use1 𝓛 (raw (fact 𝓤 (r₁ ≡ d₁))) (moved-said r₁) $ heard ! (r₁ ≡ d₁) (λ e₁. split ! $ rewrite ! 1 (λ (h : BitReader). ‵ (Own κ h u₁)) e₁ refl $ move ! (1 ∷ []) $
+        split ! $ move ! (1 ∷ []) $ use1 𝓛 (raw (fact 𝓤 (r₁ ≡ d₁))) (moved_said r₁) $ heard ! (r₁ ≡ d₁) (λ e₁. split ! $ rewrite ! 1 (λ (h : BitReader). ‵ (Own κ h u₁)) e₁ refl $ move ! (1 ∷ []) $
         peeks ! (B (κ, tt)) (Is (B (κ, tt))) (shows 𝓛 (B (κ, tt))) d₁ (u₁ ∷ []) (λ is₁.
         land ! (from ! (stop !)) (init ! 6 refl ((LL.lawful (T.the_type αᵉ) (T'.the_laws αᵉ) 𝓛).typed d₁ _ is₁).0) $
         -- `read`
-        use2 𝓛 (raw ((Rd 𝓛 mem run).pre (to_read u₁))) (goes-read u₁) $
+        use2 𝓛 (raw ((Rd 𝓛 mem run).pre (to_read u₁))) (goes_read u₁) $
         calls_at ! fm (Rd 𝓛 mem run) known_read (to_read u₁) (and_then ! (load ! (from ! (stop !)) (look ! 5 refl)) (and_then ! (load ! (from ! (stop !)) (look ! 7 refl)) (no_more !))) (λ u.
         use1 𝓛 (later (some (λ (r : BitsRead). ((‵ (flft κ q) ⊛ ‵ ftrue) ⊛ ‵ ((S.the_row).own_val r (u ∷ []))) ⊛ raw (ensured 𝓛 rd.ended (rd.clauses 𝓛 mem run) (κ, tt) (d₁, (k, tt)) tt r)))) (id⊢ 𝓤 _) $ await ! tt $ pick ! (λ r.
-        split ! $ move ! (1 ∷ []) $ use1 𝓛 (raw (fact 𝓤 (toldRead r ≡ found))) (read-said r) $ heard ! (toldRead r ≡ found) (λ e. split ! $ move ! (1 ∷ []) $
+        split ! $ move ! (1 ∷ []) $ use1 𝓛 (raw (fact 𝓤 (told_read r ≡ found))) (read_said r) $ heard ! (told_read r ≡ found) (λ e. split ! $ move ! (1 ∷ []) $
         -- [the answer; the token; what s owns; the place's and the width's; _5; …; _4; …; _3; …; _2; …; _1; …; room for _0; …]
         peeks ! S.the_row (Is S.the_row) (shows 𝓛 S.the_row) r (u ∷ []) (λ is.
         land ! (from ! (stop !)) (init ! 14 refl ((EL.lawful S.the_type S'.the_laws 𝓛 tt).typed r _ is).0) $
@@ -195,23 +195,23 @@ module _ {M : Type 1} {𝓤 : Ura M} (𝓛 : Logic 𝓤) (mem : Memory → SProp
 module _ {M : Type 1} {𝓤 : Ura M} (𝓛 : Logic 𝓤) (mem : Memory → SProp 𝓤) (run : Routine → Fun 𝓤) where
   open 𝓛 use {H}
 
-  read-from-walks : (C : Calls 𝓤 H) (Λ : Loops 𝓤 H) → FmC 𝓤 H 𝓛.laws C → Triple 𝓤 (C #bit-reader·new) (New 𝓛 mem run) → Triple 𝓤 (C #bit-reader·moved) (Moved 𝓛 mem run) → Triple 𝓤 (C #bit-reader·read) (Rd 𝓛 mem run)
+  read-from_walks : (C : Calls 𝓤 H) (Λ : Loops 𝓤 H) → FmC 𝓤 H 𝓛.laws C → Triple 𝓤 (C #bit-reader·new) (New 𝓛 mem run) → Triple 𝓤 (C #bit-reader·moved) (Moved 𝓛 mem run) → Triple 𝓤 (C #bit-reader·read) (Rd 𝓛 mem run)
       → Walks 𝓛 read-from.ended stayed (WpFn 𝓤 H C Λ code.function) (read-from.clauses 𝓛 mem run)
-  read-from-walks C Λ fm known-new known-moved known_read = walked 𝓛 read-from.ended stayed (read-from.clauses 𝓛 mem run) (WpFn 𝓤 H C Λ code.function) (λ κs. (shr_slice_vals, (LL.vals P.the_type P'.the_laws, (uint_vals w8, tt)))) (λ κs. (shr_slice_Tells (named 0) κs.0 u8, (LL.tells P.the_type P'.the_laws, (uint_Tells w8, tt))))
+  read-from_walks C Λ fm known-new known-moved known_read = walked 𝓛 read-from.ended stayed (read-from.clauses 𝓛 mem run) (WpFn 𝓤 H C Λ code.function) (λ κs. (shr_slice_vals, (LL.vals P.the_type P'.the_laws, (uint_vals w8, tt)))) (λ κs. (shr_slice_Tells (named 0) κs.0 u8, (LL.tells P.the_type P'.the_laws, (uint_Tells w8, tt))))
       (λ κs qs bounds a g are. via 𝓤 _ (fst∗ 𝓤 _ (emp 𝓤)) (walk 𝓛 mem run κs.0 qs.0 a.0 a.1.0 a.1.1.0 are.1.0 are.1.1.0.1 C Λ fm known-new known-moved known_read are.0))
 
-read-from-meets : {M : Type 1} {𝓤 : Ura M} (𝓛 : Logic 𝓤) (mem : Memory → SProp 𝓤) (run : Routine → Fun 𝓤) (𝓣 : Tables 𝓤 𝓛.H)
+read-from_meets : {M : Type 1} {𝓤 : Ura M} (𝓛 : Logic 𝓤) (mem : Memory → SProp 𝓤) (run : Routine → Fun 𝓤) (𝓣 : Tables 𝓤 𝓛.H)
     → Triple 𝓤 (𝓣.C #bit-reader·new) (New 𝓛 mem run) → Triple 𝓤 (𝓣.C #bit-reader·moved) (Moved 𝓛 mem run) → Triple 𝓤 (𝓣.C #bit-reader·read) (Rd 𝓛 mem run)
     → Meets 𝓛 read-from.signature (WpFn 𝓤 𝓛.H 𝓣.C 𝓣.Λ code.function) (read-from.spec 𝓛 mem run)
-read-from-meets {𝓤 = 𝓤} 𝓛 mem run 𝓣 known-new known-moved known_read = walk_Meets 𝓛 read-from.ended stayed (Goes-none_slice 𝓛 1 (0 ∷ []) tt (plain (λ _. u8)) yes, (Goes-none 𝓛 1 (λ _. P.the_row) yes (λ κs x f. refl), (Goes-none 𝓛 1 (λ _. u8) yes (λ κs x f. refl), tt)))
-    (read-from.clauses 𝓛 mem run) (WpFn 𝓤 𝓛.H 𝓣.C 𝓣.Λ code.function) (WpFn-mono 𝓤 𝓛.H 𝓛.laws 𝓣 code.function) (read-from-walks 𝓛 mem run 𝓣.C 𝓣.Λ (fm_of 𝓤 𝓛.H 𝓛.laws 𝓣) known-new known-moved known_read)
+read-from_meets {𝓤 = 𝓤} 𝓛 mem run 𝓣 known-new known-moved known_read = walk_Meets 𝓛 read-from.ended stayed (Goes-none_slice 𝓛 1 (0 ∷ []) tt (plain (λ _. u8)) yes, (Goes-none 𝓛 1 (λ _. P.the_row) yes (λ κs x f. refl), (Goes-none 𝓛 1 (λ _. u8) yes (λ κs x f. refl), tt)))
+    (read-from.clauses 𝓛 mem run) (WpFn 𝓤 𝓛.H 𝓣.C 𝓣.Λ code.function) (WpFn-mono 𝓤 𝓛.H 𝓛.laws 𝓣 code.function) (read-from_walks 𝓛 mem run 𝓣.C 𝓣.Λ (fm_of 𝓤 𝓛.H 𝓛.laws 𝓣) known-new known-moved known_read)
 
-pub read-from-spec : {M : Type 1} → stated.statement M
+pub read-from_spec : {M : Type 1} → stated.statement M
 unfolding code.routine tables_of
-read-from-spec 𝓤 𝓛 𝓜 𝓡 =
+read-from_spec 𝓤 𝓛 𝓜 𝓡 =
     entered 𝓤 𝓛.H (triple_of 𝓛 read-from.signature (read-from.spec 𝓛 𝓜.mem 𝓡.run))
     (tables 𝓤 𝓛.H 𝓜 𝓡 code.env).C (tables 𝓤 𝓛.H 𝓜 𝓡 code.env).Λ #bit-reader·read-from code.function (code.unfolded 𝓤 𝓛.H 𝓜 𝓡)
-    (read-from-meets 𝓛 𝓜.mem 𝓡.run (tables_of 𝓤 𝓛.H 𝓜 (tables 𝓤 𝓛.H 𝓜 𝓡 code.env))
+    (read-from_meets 𝓛 𝓜.mem 𝓡.run (tables_of 𝓤 𝓛.H 𝓜 (tables 𝓤 𝓛.H 𝓜 𝓡 code.env))
     (cited 𝓤 𝓛.H (New 𝓛 𝓜.mem 𝓡.run) 𝓜 𝓡 code.env #bit-reader·new new-def.routine code.calls-bit-reader::BitReader::new (new-thm.met 𝓤 𝓛 𝓜 𝓡))
     (cited 𝓤 𝓛.H (Moved 𝓛 𝓜.mem 𝓡.run) 𝓜 𝓡 code.env #bit-reader·moved moved-def.routine code.calls-bit-reader::BitReader::moved (moved-thm.met 𝓤 𝓛 𝓜 𝓡))
     (cited 𝓤 𝓛.H (Rd 𝓛 𝓜.mem 𝓡.run) 𝓜 𝓡 code.env #bit-reader·read rd-def.routine code.calls-bit-reader::BitReader::read (rd-thm.met 𝓤 𝓛 𝓜 𝓡)))

@@ -2,7 +2,7 @@
 ghost use Rattle.std.specs.Prelude.{◌≡◌, pos};
 ghost use Rattle.std.specs.Int.Signed.{lt_z};
 ghost use Rattle.search.specs.Inner.{GoodSecs};
-ghost use Rattle.explaining.specs.Reason.{reasonOf};
+ghost use Rattle.explaining.specs.Reason.{reason_of};
 
 use crate::Reason;
 use crate::inner::beside;
@@ -13,7 +13,7 @@ use tracker::Second;
 
 pub fn reason(secs: &[i64], n: usize, ts: Second, find_opt: FindOption) -> Reason
     requires { GoodSecs secs.now n }
-    ensures { result ≡ reasonOf lt_z (pos 0) find_opt secs.now n ts.0 }
+    ensures { result ≡ reason_of lt_z (pos 0) find_opt secs.now n ts.0 }
 {
     if n == 0 {
         return Reason::Empty;

@@ -1,7 +1,7 @@
 // The reason among the first n sequences of a good table, which do not drop.
 ghost use Rattle.std.specs.Prelude.{◌≡◌, ltb};
 ghost use Rattle.search.specs.Inner.{InOrder};
-ghost use Rattle.explaining.specs.Reason.{reasonOf};
+ghost use Rattle.explaining.specs.Reason.{reason_of};
 
 use crate::Reason;
 use crate::inner::beside;
@@ -12,7 +12,7 @@ use tracker::Seq;
 
 pub fn reason(seqs: &[u64], n: usize, seq: Seq, find_opt: FindOption) -> Reason
     requires { InOrder ltb 0 seqs.now n }
-    ensures { result ≡ reasonOf ltb 0 find_opt seqs.now n seq.0 }
+    ensures { result ≡ reason_of ltb 0 find_opt seqs.now n seq.0 }
 {
     if n == 0 {
         return Reason::Empty;

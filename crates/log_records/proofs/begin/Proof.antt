@@ -4,26 +4,26 @@ use Rattle.log.specs.Log.{run_of}
 use Rattle.log_records.proofs.begin.Statement.{statement}
 use Rattle.log_records.proofs.begin.Tie as tie
 
-none-yet-requires : tie.Need-none-yet-requires
-none-yet-requires c κs = search rules
+none_yet_requires : tie.Need-none-yet-requires
+none_yet_requires c κs = search rules
 
-check-requires : tie.Need-check-requires
-check-requires c κs = search rules
+check_requires : tie.Need-check-requires
+check_requires c κs = search rules
 
 enum_told : tie.Need-enum-told
 enum_told c = search rules
 
-going-requires : tie.Need-going-requires
-going-requires c κs = search rules
+going_requires : tie.Need-going-requires
+going_requires c κs = search rules
 
-enum-known-why : tie.Need-enum-known-why
-enum-known-why c = search rules
+enum_known_why : tie.Need-enum-known-why
+enum_known_why c = search rules
 
 same_length : tie.Need-same-length
 same_length c = search rules
 
-same-length-2 : tie.Need-same-length-2
-same-length-2 c = search rules
+same-length_2 : tie.Need-same-length-2
+same-length_2 c = search rules
 
 returns : tie.Need-returns
 unfolding run_of
@@ -31,27 +31,27 @@ returns c =
     let checked = c.before.before.before in
     (rw (c.going.ensures, checked.before.before.before.none_yet.ensures, ← checked.check.ensures, c.before.enum_told.given.1), rw c.going.ensures)
 
-same-length-3 : tie.Need-same-length-3
-same-length-3 c = search rules
+same-length_3 : tie.Need-same-length-3
+same-length_3 c = search rules
 
-same-length-4 : tie.Need-same-length-4
-same-length-4 c = search rules
+same-length_4 : tie.Need-same-length-4
+same-length_4 c = search rules
 
-returns-2 : tie.Need-returns-2
-returns-2 c = (rw (← c.before.before.before.check.ensures, c.before.why.given.1), refl)
+returns_2 : tie.Need-returns-2
+returns_2 c = (rw (← c.before.before.before.check.ensures, c.before.why.given.1), refl)
 
-pub begin-spec : {M : Type 1} → statement M
-begin-spec =
+pub begin_spec : {M : Type 1} → statement M
+begin_spec =
     tie.close
     (tie.spec
-    none-yet-requires
-    check-requires
+    none_yet_requires
+    check_requires
     enum_told
-    going-requires
-    enum-known-why
+    going_requires
+    enum_known_why
     same_length
-    same-length-2
+    same-length_2
     returns
-    same-length-3
-    same-length-4
-    returns-2)
+    same-length_3
+    same-length_4
+    returns_2)

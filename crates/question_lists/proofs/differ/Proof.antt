@@ -5,8 +5,8 @@ use Rattle.question_lists.proofs.differ.Tie as tie
 returns : tie.Need-returns
 returns c = rw (ne_eqb _ _ c.if1.true)
 
-returns-2 : tie.Need-returns-2
-returns-2 c = rw (eq-eqb _ _ c.if1.false)
+returns_2 : tie.Need-returns-2
+returns_2 c = rw (eq-eqb _ _ c.if1.false)
 
-pub differ-spec : {M : Type 1} → statement M
-differ-spec = tie.close (tie.spec returns returns-2)
+pub differ_spec : {M : Type 1} → statement M
+differ_spec = tie.close (tie.spec returns returns_2)

@@ -2,13 +2,13 @@
 // read is known to fit 64 bits by nothing else, and so not to be above the greatest number.
 ghost use Rattle.std.specs.Prelude.{◌≡◌, ◌+◌, ◌≤◌, ◌<◌, pos};
 ghost use Rattle.std.specs.Int.Signed.{lt_z};
-ghost use Rattle.search.specs.Keys.{firstNotBelow, lastNotAbove};
-ghost use Rattle.search.specs.Inner.{firstAbove, Bracket, InOrder, GoodSecs};
+ghost use Rattle.search.specs.Keys.{first_not_below, last_not_above};
+ghost use Rattle.search.specs.Inner.{first_above, Bracket, InOrder, GoodSecs};
 
 // The first second that is not below x, or n, by halves of what is left.
 fn by_halves(secs: &[i64], n: usize, x: i64) -> usize
     requires { InOrder lt_z (pos 0) secs.now n }
-    ensures { result ≡ firstNotBelow lt_z (pos 0) secs.now n x }
+    ensures { result ≡ first_not_below lt_z (pos 0) secs.now n x }
 {
     let mut lo = 0;
     let mut hi = n;
@@ -43,7 +43,7 @@ fn half(secs: &[i64], n: usize, p: usize, k: usize, x: i64) -> usize
 // The same of 4,096 to 8,192 seconds.
 fn by_known_halves(secs: &[i64], n: usize, x: i64) -> usize
     requires { InOrder lt_z (pos 0) secs.now n × (4096 ≤ n) × (n ≤ 8192) }
-    ensures { result ≡ firstNotBelow lt_z (pos 0) secs.now n x }
+    ensures { result ≡ first_not_below lt_z (pos 0) secs.now n x }
 {
     let p = in_half(secs, n, x);
     let p = half(secs, n, p, 2048, x);
@@ -64,7 +64,7 @@ fn by_known_halves(secs: &[i64], n: usize, x: i64) -> usize
 // The position of the first second that is not below x, or n.
 pub fn first_not_below(secs: &[i64], n: usize, x: i64) -> usize
     requires { InOrder lt_z (pos 0) secs.now n }
-    ensures { result ≡ firstNotBelow lt_z (pos 0) secs.now n x }
+    ensures { result ≡ first_not_below lt_z (pos 0) secs.now n x }
 {
     if n < 4096 {
         return by_halves(secs, n, x);
@@ -78,7 +78,7 @@ pub fn first_not_below(secs: &[i64], n: usize, x: i64) -> usize
 // The position of the first second above x, or n.
 fn first_above(secs: &[i64], n: usize, x: i64) -> usize
     requires { GoodSecs secs.now n }
-    ensures { result ≡ firstAbove lt_z (pos 0) secs.now n x }
+    ensures { result ≡ first_above lt_z (pos 0) secs.now n x }
 {
     if x == 9223372036854775807 {
         return n;
@@ -89,7 +89,7 @@ fn first_above(secs: &[i64], n: usize, x: i64) -> usize
 // The position of the last second that is not above x, or n.
 pub fn last_not_above(secs: &[i64], n: usize, x: i64) -> usize
     requires { GoodSecs secs.now n }
-    ensures { result ≡ lastNotAbove lt_z (pos 0) secs.now n x }
+    ensures { result ≡ last_not_above lt_z (pos 0) secs.now n x }
 {
     let past = first_above(secs, n, x);
     if past == 0 { n } else { past - 1 }

@@ -1,12 +1,12 @@
 // The searches among the first n sequences, which do not drop.
 ghost use Rattle.std.specs.Prelude.{◌≡◌, ◌+◌, ◌≤◌, ◌<◌, ltb};
-ghost use Rattle.search.specs.Keys.{firstNotBelow, lastNotAbove};
-ghost use Rattle.search.specs.Inner.{firstAbove, Bracket, InOrder};
+ghost use Rattle.search.specs.Keys.{first_not_below, last_not_above};
+ghost use Rattle.search.specs.Inner.{first_above, Bracket, InOrder};
 
 // The first sequence that is not below x, or n, by halves of what is left.
 fn by_halves(seqs: &[u64], n: usize, x: u64) -> usize
     requires { InOrder ltb 0 seqs.now n }
-    ensures { result ≡ firstNotBelow ltb 0 seqs.now n x }
+    ensures { result ≡ first_not_below ltb 0 seqs.now n x }
 {
     let mut lo = 0;
     let mut hi = n;
@@ -42,7 +42,7 @@ fn half(seqs: &[u64], n: usize, p: usize, k: usize, x: u64) -> usize
 // wrong. That is the size of a table of the default capacity once it has been halved.
 fn by_known_halves(seqs: &[u64], n: usize, x: u64) -> usize
     requires { InOrder ltb 0 seqs.now n × (4096 ≤ n) × (n ≤ 8192) }
-    ensures { result ≡ firstNotBelow ltb 0 seqs.now n x }
+    ensures { result ≡ first_not_below ltb 0 seqs.now n x }
 {
     let p = in_half(seqs, n, x);
     let p = half(seqs, n, p, 2048, x);
@@ -63,7 +63,7 @@ fn by_known_halves(seqs: &[u64], n: usize, x: u64) -> usize
 // The position of the first sequence that is not below x, or n.
 pub fn first_not_below(seqs: &[u64], n: usize, x: u64) -> usize
     requires { InOrder ltb 0 seqs.now n }
-    ensures { result ≡ firstNotBelow ltb 0 seqs.now n x }
+    ensures { result ≡ first_not_below ltb 0 seqs.now n x }
 {
     if n < 4096 {
         return by_halves(seqs, n, x);
@@ -78,7 +78,7 @@ pub fn first_not_below(seqs: &[u64], n: usize, x: u64) -> usize
 // serves both ways.
 fn first_above(seqs: &[u64], n: usize, x: u64) -> usize
     requires { InOrder ltb 0 seqs.now n }
-    ensures { result ≡ firstAbove ltb 0 seqs.now n x }
+    ensures { result ≡ first_above ltb 0 seqs.now n x }
 {
     if x == 18446744073709551615 {
         return n;
@@ -89,7 +89,7 @@ fn first_above(seqs: &[u64], n: usize, x: u64) -> usize
 // The position of the last sequence that is not above x, or n: the one before the first above it.
 pub fn last_not_above(seqs: &[u64], n: usize, x: u64) -> usize
     requires { InOrder ltb 0 seqs.now n }
-    ensures { result ≡ lastNotAbove ltb 0 seqs.now n x }
+    ensures { result ≡ last_not_above ltb 0 seqs.now n x }
 {
     let past = first_above(seqs, n, x);
     if past == 0 { n } else { past - 1 }

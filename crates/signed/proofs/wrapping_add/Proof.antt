@@ -4,17 +4,17 @@ use Rattle.signed.specs.Signed.{signed, pattern, add_w}
 use Rattle.signed.proofs.wrapping_add.Statement.{statement}
 use Rattle.signed.proofs.wrapping_add.Tie as tie
 
-as-unsigned-requires : tie.Need-as-unsigned-requires
-as-unsigned-requires c κs = search rules
+as_unsigned_requires : tie.Need-as-unsigned-requires
+as_unsigned_requires c κs = search rules
 
-as-unsigned-requires-2 : tie.Need-as-unsigned-requires-2
-as-unsigned-requires-2 c κs = search rules
+as_unsigned_requires_2 : tie.Need-as-unsigned-requires-2
+as_unsigned_requires_2 c κs = search rules
 
-wrapping-add-u64-requires : tie.Need-wrapping-add-u64-requires
-wrapping-add-u64-requires c κs = search rules
+wrapping_add_u64_requires : tie.Need-wrapping-add-u64-requires
+wrapping_add_u64_requires c κs = search rules
 
-as-signed-requires : tie.Need-as-signed-requires
-as-signed-requires c κs = search rules
+as_signed_requires : tie.Need-as-signed-requires
+as_signed_requires c κs = search rules
 
 returns : tie.Need-returns
 returns c =
@@ -28,12 +28,12 @@ returns c =
     rw (← u, ← v) c₃.wrapping-add-u64.ensures in
     to_z-of_z (sfits_of c.as-signed.type-inv) ∙ c.as-signed.ensures ∙ ap signed e
 
-pub wrapping-add-spec : {M : Type 1} → statement M
-wrapping-add-spec =
+pub wrapping_add_spec : {M : Type 1} → statement M
+wrapping_add_spec =
     tie.close
     (tie.spec
-    as-unsigned-requires
-    as-unsigned-requires-2
-    wrapping-add-u64-requires
-    as-signed-requires
+    as_unsigned_requires
+    as_unsigned_requires_2
+    wrapping_add_u64_requires
+    as_signed_requires
     returns)

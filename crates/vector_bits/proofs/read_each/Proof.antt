@@ -2,43 +2,43 @@ use Rattle.std.proofs.Common.{◌-◌, rules}
 use Rattle.vector_bits.proofs.read_each.Statement.{statement}
 use Rattle.vector_bits.proofs.read_each.Tie as tie
 
-abbrev invariant-loop : tie.invariant-loop
-invariant-loop b first n s tally₀ at₀ from₀ i₀ tally at from i = Unit {0}
+abbrev invariant_loop : tie.invariant_loop
+invariant_loop b first n s tally₀ at₀ from₀ i₀ tally at from i = Unit {0}
 
-abbrev decreases-loop : tie.decreases-loop
-decreases-loop b first n s tally₀ at₀ from₀ i₀ tally at from i = n - i
+abbrev decreases_loop : tie.decreases_loop
+decreases_loop b first n s tally₀ at₀ from₀ i₀ tally at from i = n - i
 
-loop-holds : tie.Need-loop-init invariant-loop decreases-loop
-loop-holds c = search rules
+loop_holds : tie.Need-loop-init invariant_loop decreases_loop
+loop_holds c = search rules
 
-read-one-requires : tie.Need-read-one-requires invariant-loop decreases-loop
-read-one-requires c κs = search rules
+read-one_requires : tie.Need-read-one-requires invariant_loop decreases_loop
+read-one_requires c κs = search rules
 
-wrapping-add-usize-requires : tie.Need-wrapping-add-usize-requires invariant-loop decreases-loop
-wrapping-add-usize-requires c κs = search rules
+wrapping_add_usize_requires : tie.Need-wrapping-add-usize-requires invariant_loop decreases_loop
+wrapping_add_usize_requires c κs = search rules
 
-add-i : tie.Need-overflow-add-i invariant-loop decreases-loop
-add-i c = search rules
+add_i : tie.Need-overflow-add-i invariant_loop decreases_loop
+add_i c = search rules
 
-loop-less : tie.Need-loop-smaller invariant-loop decreases-loop
-loop-less c = search rules
+loop_less : tie.Need-loop-smaller invariant_loop decreases_loop
+loop_less c = search rules
 
-loop-again : tie.Need-loop-preserved invariant-loop decreases-loop
-loop-again c = search rules
+loop_again : tie.Need-loop-preserved invariant_loop decreases_loop
+loop_again c = search rules
 
-returns : tie.Need-returns invariant-loop decreases-loop
+returns : tie.Need-returns invariant_loop decreases_loop
 returns c = search rules
 
-pub read-each-spec : {M : Type 1} → statement M
-read-each-spec =
+pub read-each_spec : {M : Type 1} → statement M
+read-each_spec =
     tie.close
     (tie.spec
-    invariant-loop
-    decreases-loop
-    loop-holds
-    read-one-requires
-    wrapping-add-usize-requires
-    add-i
-    loop-less
-    loop-again
+    invariant_loop
+    decreases_loop
+    loop_holds
+    read-one_requires
+    wrapping_add_usize_requires
+    add_i
+    loop_less
+    loop_again
     returns)

@@ -1,49 +1,49 @@
 use mathlib.Core.Path.{refl}
 use lib.ListN.{take}
 use borrow.Author.Rules.{rules}
-use Rattle.running.proofs.Laws.{fits-there, not-read, ran}
-use Rattle.why_text.specs.Text.{whyText}
+use Rattle.running.proofs.Laws.{fits-there, not_read, ran}
+use Rattle.why_text.specs.Text.{why_text}
 use Rattle.why_io.specs.Run.{Explaining}
 use Rattle.why_io.proofs.run.Statement.{statement}
 use Rattle.why_io.proofs.run.Tie as tie
 
-read-all-requires : tie.Need-read-all-requires
-read-all-requires c κs = search rules
+read-all_requires : tie.Need-read-all-requires
+read-all_requires c κs = search rules
 
-failed-requires : tie.Need-failed-requires
-failed-requires c κs = search rules
+failed_requires : tie.Need-failed-requires
+failed_requires c κs = search rules
 
-slice-aggregate-fail : tie.Need-slice-aggregate-fail
-slice-aggregate-fail c = search rules
+slice_aggregate_fail : tie.Need-slice-aggregate-fail
+slice_aggregate_fail c = search rules
 
-fail-requires : tie.Need-fail-requires
-fail-requires c κs = search rules
+fail_requires : tie.Need-fail-requires
+fail_requires c κs = search rules
 
 returns : tie.Need-returns
 returns c =
     let th = c.before.before in
     let fd = th.before in
     let ra = fd.before in
-    not-read Explaining ra.read_all.result _ _ _ fd.failed.result fd.failed.ensures ra.read_all.ensures th.if1.true refl
+    not_read Explaining ra.read_all.result _ _ _ fd.failed.result fd.failed.ensures ra.read_all.ensures th.if1.true refl
 
-bytes-requires : tie.Need-bytes-requires
-bytes-requires c κs = search rules
+bytes_requires : tie.Need-bytes-requires
+bytes_requires c κs = search rules
 
-explain-requires : tie.Need-explain-requires
-explain-requires c κs = search rules
+explain_requires : tie.Need-explain-requires
+explain_requires c κs = search rules
 
-slice-aggregate-print : tie.Need-slice-aggregate-print
-slice-aggregate-print c = search rules
+slice_aggregate_print : tie.Need-slice-aggregate-print
+slice_aggregate_print c = search rules
 
-print-requires : tie.Need-print-requires
-print-requires c κs =
+print_requires : tie.Need-print-requires
+print_requires c κs =
     let ex = c.before.before.before in
     let by = ex.before.before in
     let ra = by.before.before.before.before.before in
-    fits-there (whyText (take by.bytes.result ra.read_all.new.0)) ra.before.before.args.text.now ex.explain.ensures
+    fits-there (why_text (take by.bytes.result ra.read_all.new.0)) ra.before.before.args.text.now ex.explain.ensures
 
-returns-2 : tie.Need-returns-2
-returns-2 c =
+returns_2 : tie.Need-returns-2
+returns_2 c =
     let ex = c.before.before.before.before in
     let by = ex.before.before in
     let el = by.before.before.before in
@@ -56,13 +56,13 @@ pub run_spec : {M : Type 1} → statement M
 run_spec =
     tie.close
     (tie.spec
-    read-all-requires
-    failed-requires
-    slice-aggregate-fail
-    fail-requires
+    read-all_requires
+    failed_requires
+    slice_aggregate_fail
+    fail_requires
     returns
-    bytes-requires
-    explain-requires
-    slice-aggregate-print
-    print-requires
-    returns-2)
+    bytes_requires
+    explain_requires
+    slice_aggregate_print
+    print_requires
+    returns_2)

@@ -11,135 +11,135 @@ use mir.Syntax.{w64}
 use mir.Val.{SFits}
 use mir.Facts.{to_z-of_z}
 use Rattle.told.specs.Over.{over}
-use Rattle.gorilla.specs.Inner.{isRead}
-use Rattle.gorilla.specs.Reading.{readCodes, valuesAfter}
+use Rattle.gorilla.specs.Inner.{is_read}
+use Rattle.gorilla.specs.Reading.{read_codes, values_after}
 use Rattle.array_reader.specs.Inner.{array_at}
 use Rattle.array_filler.specs.Inner.{ahead, Stepped}
 use Rattle.array_filler.specs.declared.fill.Cursor.{Cursor}
-use Rattle.array_reader.proofs.Arrays.{passed_first, passed-long}
-use Rattle.array_filler.proofs.Filling.{map-id, filled, fill-next, filled-over, none_over, first-there}
+use Rattle.array_reader.proofs.Arrays.{passed_first, passed_long}
+use Rattle.array_filler.proofs.Filling.{map_id, filled, fill_next, filled-over, none_over, first-there}
 use Rattle.array_filler.proofs.fill.fill_secs.Statement.{statement}
 use Rattle.array_filler.proofs.fill.fill_secs.Tie as tie
 
 -- all codes from here on are there, and stored they make the whole array
-abbrev invariant-loop : tie.invariant-loop
-invariant-loop s count first out₀ c₀ i₀ out c i =
-    (1 ≤ i) × (count ≤ length out) × (length out ≡ length out₀) × (isRead (readCodes (length s * 8) 1 (count - i) i (ahead s c)) ≡ true)
-    × (filled (λ z. z) out i c.track (readCodes (length s * 8) 1 (count - i) i (ahead s c)) ≡ filled (λ z. z) out₀ 1 c₀.track (readCodes (length s * 8) 1 (count - 1) 1 (ahead s c₀)))
+abbrev invariant_loop : tie.invariant_loop
+invariant_loop s count first out₀ c₀ i₀ out c i =
+    (1 ≤ i) × (count ≤ length out) × (length out ≡ length out₀) × (is_read (read_codes (length s * 8) 1 (count - i) i (ahead s c)) ≡ true)
+    × (filled (λ z. z) out i c.track (read_codes (length s * 8) 1 (count - i) i (ahead s c)) ≡ filled (λ z. z) out₀ 1 c₀.track (read_codes (length s * 8) 1 (count - 1) 1 (ahead s c₀)))
 
-abbrev decreases-loop : tie.decreases-loop
-decreases-loop s count first out₀ c₀ i₀ out c i = count - i
+abbrev decreases_loop : tie.decreases_loop
+decreases_loop s count first out₀ c₀ i₀ out c i = count - i
 
-abbrev st-of : tie.In-loop invariant-loop decreases-loop → tie.Start invariant-loop decreases-loop
-st-of t = t.before.before.before.before
+abbrev st_of : tie.In-loop invariant_loop decreases_loop → tie.Start invariant_loop decreases_loop
+st_of t = t.before.before.before.before
 
-abbrev i-of : tie.In-loop invariant-loop decreases-loop → ℕ
-i-of t = t.before.loop.i
+abbrev i_of : tie.In-loop invariant_loop decreases_loop → ℕ
+i_of t = t.before.loop.i
 
-abbrev all_of : tie.In-loop invariant-loop decreases-loop → ℕ
-all_of t = length (st-of t).args.s.now * 8
+abbrev all_of : tie.In-loop invariant_loop decreases_loop → ℕ
+all_of t = length (st_of t).args.s.now * 8
 
-abbrev here_of : tie.In-loop invariant-loop decreases-loop → List ℕ
-here_of t = ahead (st-of t).args.s.now t.before.loop.c
+abbrev here_of : tie.In-loop invariant_loop decreases_loop → List ℕ
+here_of t = ahead (st_of t).args.s.now t.before.loop.c
 
 -- the codes that are left after this one
-abbrev k-of : tie.In-loop invariant-loop decreases-loop → ℕ
-k-of t = (st-of t).args.count - (i-of t + 1)
+abbrev k_of : tie.In-loop invariant_loop decreases_loop → ℕ
+k_of t = (st_of t).args.count - (i_of t + 1)
 
-left_is : (t : tie.In-loop invariant-loop decreases-loop) → (st-of t).args.count - i-of t ≡ suc (k-of t)
+left_is : (t : tie.In-loop invariant_loop decreases_loop) → (st_of t).args.count - i_of t ≡ suc (k_of t)
 left_is t = omega (arith, t.loop-test.true)
 
-passed : (t : tie.In-loop invariant-loop decreases-loop) → isRead (readCodes (all_of t) 1 (suc (k-of t)) (i-of t) (here_of t)) ≡ true
-passed t = ap (λ (k : ℕ). isRead (readCodes (all_of t) 1 k (i-of t) (here_of t))) (sym (left_is t)) ∙ t.before.loop.invariant.3
+passed : (t : tie.In-loop invariant_loop decreases_loop) → is_read (read_codes (all_of t) 1 (suc (k_of t)) (i_of t) (here_of t)) ≡ true
+passed t = ap (λ (k : ℕ). is_read (read_codes (all_of t) 1 k (i_of t) (here_of t))) (sym (left_is t)) ∙ t.before.loop.invariant.3
 
 -- the bytes are eight at least
-long : (t : tie.In-loop invariant-loop decreases-loop) → 8 ≤ length (st-of t).args.s.now
-long t = let st = st-of t in passed-long st.args.s.now 1 st.args.count st.args.at (omega (arith, t.loop-test.true)) st.pre.1
+long : (t : tie.In-loop invariant_loop decreases_loop) → 8 ≤ length (st_of t).args.s.now
+long t = let st = st_of t in passed_long st.args.s.now 1 st.args.count st.args.at (omega (arith, t.loop-test.true)) st.pre.1
 
 -- one value on, by a zero that was found already or by a code that is read
-abbrev On : tie.In-loop invariant-loop decreases-loop → Cursor → Type 0
-On t r = Stepped (st-of t).args.s.now 1 (i-of t) t.before.loop.c r
+abbrev On : tie.In-loop invariant_loop decreases_loop → Cursor → Type 0
+On t r = Stepped (st_of t).args.s.now 1 (i_of t) t.before.loop.c r
 
-stepped : (j : tie.Joined2 invariant-loop decreases-loop) → On j.before.before j.if2.c
+stepped : (j : tie.Joined2 invariant_loop decreases_loop) → On j.before.before j.if2.c
 stepped j =
     let t = j.before.before in
-    ⊎_elim (λ w. subst (On t) (sym w.2) (w.1.ensures (st-of t).args.s.now 1 (i-of t))) (λ w. subst (On t) (sym w.2) (w.1.ensures 1 (i-of t))) j.if2.branch
+    ⊎_elim (λ w. subst (On t) (sym w.2) (w.1.ensures (st_of t).args.s.now 1 (i_of t))) (λ w. subst (On t) (sym w.2) (w.1.ensures 1 (i_of t))) j.if2.branch
 
-returns : tie.Need-returns invariant-loop decreases-loop
+returns : tie.Need-returns invariant_loop decreases_loop
 returns c =
     let st = c.before.before in
     let s = st.args.s.now in
-    none_over (λ z. z) s 1 st.args.count st.args.first st.args.at st.args.out.now c.if1.true ∙ rw (map-id) refl
+    none_over (λ z. z) s 1 st.args.count st.args.first st.args.at st.args.out.now c.if1.true ∙ rw (map_id) refl
 
-slice-set-from-first : tie.Need-slice-set-from-first invariant-loop decreases-loop
-slice-set-from-first c = search rules
+slice_set-from-first : tie.Need-slice-set-from-first invariant_loop decreases_loop
+slice_set-from-first c = search rules
 
-loop-holds : tie.Need-loop-init invariant-loop decreases-loop
-loop-holds c =
+loop_holds : tie.Need-loop-init invariant_loop decreases_loop
+loop_holds c =
     let st = c.before.before in
     (omega arith, simp length-set (omega arith), refl, passed_first st.args.s.now 1 st.args.count st.args.at (omega (arith, c.if1.false)) st.requires.1, refl)
 
-coast-requires : tie.Need-coast-requires invariant-loop decreases-loop
-coast-requires c κs = search rules
+coast_requires : tie.Need-coast-requires invariant_loop decreases_loop
+coast_requires c κs = search rules
 
-step-requires : tie.Need-step-requires invariant-loop decreases-loop
-step-requires c κs = let t = c.before.before in (omega (arith, c.if2.false), long t, (1, i-of t, first-there (all_of t) 1 (i-of t) (k-of t) (here_of t) (passed t)))
+step_requires : tie.Need-step-requires invariant_loop decreases_loop
+step_requires c κs = let t = c.before.before in (omega (arith, c.if2.false), long t, (1, i_of t, first-there (all_of t) 1 (i_of t) (k_of t) (here_of t) (passed t)))
 
-mul-v : tie.Need-overflow-mul-v invariant-loop decreases-loop
-mul-v c = search rules
+mul_v : tie.Need-overflow-mul-v invariant_loop decreases_loop
+mul_v c = search rules
 
-slice-set-from-v : tie.Need-slice-set-from-v invariant-loop decreases-loop
-slice-set-from-v c = search rules
+slice_set-from_v : tie.Need-slice-set-from-v invariant_loop decreases_loop
+slice_set-from_v c = search rules
 
-add-i : tie.Need-overflow-add-i invariant-loop decreases-loop
-add-i c = search rules
+add_i : tie.Need-overflow-add-i invariant_loop decreases_loop
+add_i c = search rules
 
-loop-less : tie.Need-loop-smaller invariant-loop decreases-loop
-loop-less c = search rules
+loop_less : tie.Need-loop-smaller invariant_loop decreases_loop
+loop_less c = search rules
 
-loop-again : tie.Need-loop-preserved invariant-loop decreases-loop
-loop-again c =
+loop_again : tie.Need-loop-preserved invariant_loop decreases_loop
+loop_again c =
     let j = c.before.before in
     let t = j.before.before in
     let l = t.before.loop in
     let f : SFits w64 j.if2.c.track.prev = search rules in
-    let n = fill-next (λ z. z) (all_of t) 1 l.out (i-of t) (k-of t) l.c.track (here_of t) (stepped j).1 (passed t) in (
+    let n = fill_next (λ z. z) (all_of t) 1 l.out (i_of t) (k_of t) l.c.track (here_of t) (stepped j).1 (passed t) in (
       omega arith,
       simp length-set (omega arith),
       simp length-set (l.invariant.2 ∙ simp length-set),
       n.0,
-      rw (to_z-of_z f, (stepped j).2) (n.1 ∙ ap (λ (k : ℕ). filled (λ z. z) l.out (i-of t) l.c.track (readCodes (all_of t) 1 k (i-of t) (here_of t))) (sym (left_is t)) ∙ l.invariant.4),
+      rw (to_z-of_z f, (stepped j).2) (n.1 ∙ ap (λ (k : ℕ). filled (λ z. z) l.out (i_of t) l.c.track (read_codes (all_of t) 1 k (i_of t) (here_of t))) (sym (left_is t)) ∙ l.invariant.4),
     )
 
-same_length : tie.Need-same-length invariant-loop decreases-loop
+same_length : tie.Need-same-length invariant_loop decreases_loop
 same_length c = c.before.loop.invariant.2 ∙ simp length-set
 
-returns-2 : tie.Need-returns-2 invariant-loop decreases-loop
-unfolding readCodes valuesAfter
-returns-2 c =
+returns_2 : tie.Need-returns-2 invariant_loop decreases_loop
+unfolding read_codes values_after
+returns_2 c =
     let l = c.before.loop in
     let st = c.before.before.before.before in
     let s = st.args.s.now in
     let e : st.args.count - l.i ≡ 0 = omega (arith, c.loop-test.false) in
     let w = filled-over (λ z. z) s 1 st.args.count st.args.first st.args.at st.args.out.now (omega (arith, c.before.before.if1.false)) st.requires.0 st.requires.1 in
-    ap (λ (k : ℕ). filled (λ z. z) l.out l.i l.c.track (readCodes (length s * 8) 1 k l.i (ahead s l.c))) (sym e) ∙ l.invariant.4
-    ∙ rw (to_z-of_z st.ranges.first) w ∙ ap (λ (ys : List ℤ). over ys st.args.out.now) (map-id (array_at s 1 st.args.count st.args.first st.args.at))
+    ap (λ (k : ℕ). filled (λ z. z) l.out l.i l.c.track (read_codes (length s * 8) 1 k l.i (ahead s l.c))) (sym e) ∙ l.invariant.4
+    ∙ rw (to_z-of_z st.ranges.first) w ∙ ap (λ (ys : List ℤ). over ys st.args.out.now) (map_id (array_at s 1 st.args.count st.args.first st.args.at))
 
-pub fill-secs-spec : {M : Type 1} → statement M
-fill-secs-spec =
+pub fill_secs_spec : {M : Type 1} → statement M
+fill_secs_spec =
     tie.close
     (tie.spec
-    invariant-loop
-    decreases-loop
+    invariant_loop
+    decreases_loop
     returns
-    slice-set-from-first
-    loop-holds
-    coast-requires
-    step-requires
-    mul-v
-    slice-set-from-v
-    add-i
-    loop-less
-    loop-again
+    slice_set-from-first
+    loop_holds
+    coast_requires
+    step_requires
+    mul_v
+    slice_set-from_v
+    add_i
+    loop_less
+    loop_again
     same_length
-    returns-2)
+    returns_2)

@@ -84,17 +84,17 @@ module _ {M : Type 1} {𝓤 : Ura M} (𝓛 : Logic 𝓤) (mem : Memory → SProp
 module _ {M : Type 1} {𝓤 : Ura M} (𝓛 : Logic 𝓤) (mem : Memory → SProp 𝓤) (run : Routine → Fun 𝓤) where
   open 𝓛 use {H}
 
-  moved-walks : (C : Calls 𝓤 H) (Λ : Loops 𝓤 H) → Walks 𝓛 moved.ended stayed (WpFn 𝓤 H C Λ code.function) (moved.clauses 𝓛 mem run)
-  moved-walks C Λ = walked 𝓛 moved.ended stayed (moved.clauses 𝓛 mem run) (WpFn 𝓤 H C Λ code.function) (λ κs. (LL.vals (T.the_type (named_lft 1 0 tt κs)) (T'.the_laws (named_lft 1 0 tt κs)), (LL.vals P.the_type P'.the_laws, tt))) (λ κs. (LL.tells (T.the_type (named_lft 1 0 tt κs)) (T'.the_laws (named_lft 1 0 tt κs)), (LL.tells P.the_type P'.the_laws, tt)))
+  moved_walks : (C : Calls 𝓤 H) (Λ : Loops 𝓤 H) → Walks 𝓛 moved.ended stayed (WpFn 𝓤 H C Λ code.function) (moved.clauses 𝓛 mem run)
+  moved_walks C Λ = walked 𝓛 moved.ended stayed (moved.clauses 𝓛 mem run) (WpFn 𝓤 H C Λ code.function) (λ κs. (LL.vals (T.the_type (named_lft 1 0 tt κs)) (T'.the_laws (named_lft 1 0 tt κs)), (LL.vals P.the_type P'.the_laws, tt))) (λ κs. (LL.tells (T.the_type (named_lft 1 0 tt κs)) (T'.the_laws (named_lft 1 0 tt κs)), (LL.tells P.the_type P'.the_laws, tt)))
       (λ κs qs bounds a g are. via 𝓤 _ (fst∗ 𝓤 _ (emp 𝓤)) (walk 𝓛 mem run κs.0 qs.0 a.0 a.1.0 C Λ ((LL.lawful (T.the_type (named_lft 1 0 tt κs)) (T'.the_laws (named_lft 1 0 tt κs)) 𝓛).typed a.0 _ are.0).0 ((LL.lawful P.the_type P'.the_laws 𝓛).typed a.1.0 _ are.1.0).0))
 
-moved-meets : {M : Type 1} {𝓤 : Ura M} (𝓛 : Logic 𝓤) → (mem : Memory → SProp 𝓤) (run : Routine → Fun 𝓤) (𝓣 : Tables 𝓤 𝓛.H)
+moved_meets : {M : Type 1} {𝓤 : Ura M} (𝓛 : Logic 𝓤) → (mem : Memory → SProp 𝓤) (run : Routine → Fun 𝓤) (𝓣 : Tables 𝓤 𝓛.H)
     → Meets 𝓛 moved.signature (WpFn 𝓤 𝓛.H 𝓣.C 𝓣.Λ code.function) (moved.spec 𝓛 mem run)
-moved-meets {𝓤 = 𝓤} 𝓛 mem run 𝓣 = walk_Meets 𝓛 moved.ended stayed (Goes-none 𝓛 1 B yes (λ κs x f. refl), (Goes-none 𝓛 1 (λ _. P.the_row) yes (λ κs x f. refl), tt)) (moved.clauses 𝓛 mem run) (WpFn 𝓤 𝓛.H 𝓣.C 𝓣.Λ code.function) (WpFn-mono 𝓤 𝓛.H 𝓛.laws 𝓣 code.function) (moved-walks 𝓛 mem run 𝓣.C 𝓣.Λ)
+moved_meets {𝓤 = 𝓤} 𝓛 mem run 𝓣 = walk_Meets 𝓛 moved.ended stayed (Goes-none 𝓛 1 B yes (λ κs x f. refl), (Goes-none 𝓛 1 (λ _. P.the_row) yes (λ κs x f. refl), tt)) (moved.clauses 𝓛 mem run) (WpFn 𝓤 𝓛.H 𝓣.C 𝓣.Λ code.function) (WpFn-mono 𝓤 𝓛.H 𝓛.laws 𝓣 code.function) (moved_walks 𝓛 mem run 𝓣.C 𝓣.Λ)
 
-pub moved-spec : {M : Type 1} → stated.statement M
+pub moved_spec : {M : Type 1} → stated.statement M
 unfolding code.routine tables_of
-moved-spec 𝓤 𝓛 𝓜 𝓡 =
+moved_spec 𝓤 𝓛 𝓜 𝓡 =
     entered 𝓤 𝓛.H (triple_of 𝓛 moved.signature (moved.spec 𝓛 𝓜.mem 𝓡.run))
     (tables 𝓤 𝓛.H 𝓜 𝓡 code.env).C (tables 𝓤 𝓛.H 𝓜 𝓡 code.env).Λ #bit-reader·moved code.function (code.unfolded 𝓤 𝓛.H 𝓜 𝓡)
-    (moved-meets 𝓛 𝓜.mem 𝓡.run (tables_of 𝓤 𝓛.H 𝓜 (tables 𝓤 𝓛.H 𝓜 𝓡 code.env)))
+    (moved_meets 𝓛 𝓜.mem 𝓡.run (tables_of 𝓤 𝓛.H 𝓜 (tables 𝓤 𝓛.H 𝓜 𝓡 code.env)))

@@ -38,7 +38,7 @@ use denote.Triple.Table.{entered, cited}
 use denote.Triple.Walked.{says, Stays, stay_none, walk_of, Goes-none, Walks, ends_at, walked, walk_Meets}
 use denote.Exit.{yes}
 use denote.Triple.Clauses.{ensured, lasts}
-use Rattle.bits.specs.Read.{Piece, toldRead, readRule}
+use Rattle.bits.specs.Read.{Piece, told_read, read_rule}
 use Rattle.told.specs.Told.{Told}
 use Rattle.bits.specs.declared.Place.{Place}
 use Rattle.bit_reader.specs.declared.BitReader.{BitReader}
@@ -81,7 +81,7 @@ module _ {M : Type 1} {𝓤 : Ura M} (𝓛 : Logic 𝓤) (mem : Memory → SProp
   at = record { byte = d.byte_pos; bit = d.bit_pos }
 
   abbrev found : Told Piece
-  found = readRule d.buf.now at k
+  found = read_rule d.buf.now at k
 
   abbrev Post : Val → SProp 𝓤
   Post = (walk_of 𝓛 rd.ended stayed (rd.clauses 𝓛 mem run)).post (((κ, tt), (q, tt), tt, (d, (k, tt)), (mach ∷ [], (vint w8 k ∷ [], tt))), tt)
@@ -106,10 +106,10 @@ module _ {M : Type 1} {𝓤 : Ura M} (𝓛 : Logic 𝓤) (mem : Memory → SProp
       move ! (2 ∷ 0 ∷ []) $ use2 𝓛 (raw ((ReadBits 𝓛 mem run).pre to)) asked $ frame ! $ done !
 
   -- of the callee's `ensured`, the clause alone: it has no `&mut`, so what is said of last values is dropped
-  said : (r : BitsRead) → ent 𝓤 (ensured 𝓛 step.ended (step.clauses 𝓛 mem run) (κ, tt) (d.buf, (at, (k, tt))) tt r) (fact 𝓤 (toldRead r ≡ found))
-  said r = ex_e 𝓤 _ (λ ws. snd∗ 𝓤 (sem 𝓛 (lasts step.ended (κ, tt) (d.buf, (at, (k, tt))) ws)) (fact 𝓤 (toldRead r ≡ found)))
+  said : (r : BitsRead) → ent 𝓤 (ensured 𝓛 step.ended (step.clauses 𝓛 mem run) (κ, tt) (d.buf, (at, (k, tt))) tt r) (fact 𝓤 (told_read r ≡ found))
+  said r = ex_e 𝓤 _ (λ ws. snd∗ 𝓤 (sem 𝓛 (lasts step.ended (κ, tt) (d.buf, (at, (k, tt))) ws)) (fact 𝓤 (told_read r ≡ found)))
 
-  exits : (r : BitsRead) (u : Val) → toldRead r ≡ found → ent 𝓤 (⋆ 𝓛 (‵ ((S.the_row).own_val r (u ∷ [])) ∷ (‵ (flft κ q) ⊛ ‵ ftrue) ∷ ‵ (Own κ d mach) ∷ [])) (Post u)
+  exits : (r : BitsRead) (u : Val) → told_read r ≡ found → ent 𝓤 (⋆ 𝓛 (‵ ((S.the_row).own_val r (u ∷ [])) ∷ (‵ (flft κ q) ⊛ ‵ ftrue) ∷ ‵ (Own κ d mach) ∷ [])) (Post u)
   exits r u e =
       qed 𝓛 (‵ ((S.the_row).own_val r (u ∷ [])) ∷ (‵ (flft κ q) ⊛ ‵ ftrue) ∷ ‵ (Own κ d mach) ∷ []) ∵
       suffices ! _ (ends_at 𝓛 rd.ended stayed (rd.clauses 𝓛 mem run) (((κ, tt), (q, tt), tt, (d, (k, tt)), (mach ∷ [], (vint w8 k ∷ [], tt))), tt) u r (tt, (tt, tt)) (tt, (tt, tt))) $ says ! e $
@@ -127,7 +127,7 @@ module _ {M : Type 1} {𝓤 : Ura M} (𝓛 : Logic 𝓤) (mem : Memory → SProp
         move ! (14 ∷ []) $ use1 𝓛 (raw ((ReadBits 𝓛 mem run).pre to) ⊛ ‵ (Own κ d mach)) (apart wt.1.1.0.fits wt.1.1.1.0.fits) $ split ! $
         calls_at ! fm (ReadBits 𝓛 mem run) known to (and_then ! (load ! (from ! (stop !)) (look ! 8 refl)) (and_then ! (load ! (from ! (stop !)) (look ! 2 refl)) (and_then ! (load ! (from ! (stop !)) (look ! 10 refl)) (no_more !)))) (λ u.
         use1 𝓛 (later (some (λ (r : BitsRead). ((‵ (flft κ q) ⊛ ‵ ftrue) ⊛ ‵ ((S.the_row).own_val r (u ∷ []))) ⊛ raw (ensured 𝓛 step.ended (step.clauses 𝓛 mem run) (κ, tt) (d.buf, (at, (k, tt))) tt r)))) (id⊢ 𝓤 _) $ await ! tt $ pick ! (λ r.
-        split ! $ move ! (1 ∷ []) $ use1 𝓛 (raw (fact 𝓤 (toldRead r ≡ found))) (said r) $ heard ! (toldRead r ≡ found) (λ e. split ! $ move ! (1 ∷ []) $
+        split ! $ move ! (1 ∷ []) $ use1 𝓛 (raw (fact 𝓤 (told_read r ≡ found))) (said r) $ heard ! (told_read r ≡ found) (λ e. split ! $ move ! (1 ∷ []) $
         -- [the result; the token; what the reader owns; _6; …; _5; …; _4; …; _3; …; _2; …; _1; …; room for _0; …]
         peeks ! S.the_row (Is S.the_row) (shows 𝓛 S.the_row) r (u ∷ []) (λ is.
         land ! (from ! (stop !)) (init ! 15 refl ((EL.lawful S.the_type S'.the_laws 𝓛 tt).typed r _ is).0) $
@@ -137,16 +137,16 @@ module _ {M : Type 1} {𝓤 : Ura M} (𝓛 : Logic 𝓤) (mem : Memory → SProp
 module _ {M : Type 1} {𝓤 : Ura M} (𝓛 : Logic 𝓤) (mem : Memory → SProp 𝓤) (run : Routine → Fun 𝓤) where
   open 𝓛 use {H}
 
-  read-walks : (C : Calls 𝓤 H) (Λ : Loops 𝓤 H) → FmC 𝓤 H 𝓛.laws C → Triple 𝓤 (C #bits·read-bits) (ReadBits 𝓛 mem run)
+  read_walks : (C : Calls 𝓤 H) (Λ : Loops 𝓤 H) → FmC 𝓤 H 𝓛.laws C → Triple 𝓤 (C #bits·read-bits) (ReadBits 𝓛 mem run)
       → Walks 𝓛 rd.ended stayed (WpFn 𝓤 H C Λ code.function) (rd.clauses 𝓛 mem run)
-  read-walks C Λ fm known = walked 𝓛 rd.ended stayed (rd.clauses 𝓛 mem run) (WpFn 𝓤 H C Λ code.function) (λ κs. (LL.vals (T.the_type (named_lft 1 0 tt κs)) (T'.the_laws (named_lft 1 0 tt κs)), (uint_vals w8, tt))) (λ κs. (LL.tells (T.the_type (named_lft 1 0 tt κs)) (T'.the_laws (named_lft 1 0 tt κs)), (uint_Tells w8, tt)))
+  read_walks C Λ fm known = walked 𝓛 rd.ended stayed (rd.clauses 𝓛 mem run) (WpFn 𝓤 H C Λ code.function) (λ κs. (LL.vals (T.the_type (named_lft 1 0 tt κs)) (T'.the_laws (named_lft 1 0 tt κs)), (uint_vals w8, tt))) (λ κs. (LL.tells (T.the_type (named_lft 1 0 tt κs)) (T'.the_laws (named_lft 1 0 tt κs)), (uint_Tells w8, tt)))
       (λ κs qs bounds a g are. via 𝓤 _ (fst∗ 𝓤 _ (emp 𝓤)) (walk 𝓛 mem run κs.0 qs.0 a.0 a.1.0 are.1.0.1 C Λ fm known ((LL.lawful (T.the_type (named_lft 1 0 tt κs)) (T'.the_laws (named_lft 1 0 tt κs)) 𝓛).typed a.0 _ are.0).0))
 
 read_meets : {M : Type 1} {𝓤 : Ura M} (𝓛 : Logic 𝓤) (mem : Memory → SProp 𝓤) (run : Routine → Fun 𝓤) (𝓣 : Tables 𝓤 𝓛.H)
     → Triple 𝓤 (𝓣.C #bits·read-bits) (ReadBits 𝓛 mem run)
     → Meets 𝓛 rd.signature (WpFn 𝓤 𝓛.H 𝓣.C 𝓣.Λ code.function) (rd.spec 𝓛 mem run)
 read_meets {𝓤 = 𝓤} 𝓛 mem run 𝓣 Known-step = walk_Meets 𝓛 rd.ended stayed (Goes-none 𝓛 1 B yes (λ κs x f. refl), (Goes-none 𝓛 1 (λ _. u8) yes (λ κs x f. refl), tt)) (rd.clauses 𝓛 mem run) (WpFn 𝓤 𝓛.H 𝓣.C 𝓣.Λ code.function) (WpFn-mono 𝓤 𝓛.H 𝓛.laws 𝓣 code.function)
-    (read-walks 𝓛 mem run 𝓣.C 𝓣.Λ (fm_of 𝓤 𝓛.H 𝓛.laws 𝓣) Known-step)
+    (read_walks 𝓛 mem run 𝓣.C 𝓣.Λ (fm_of 𝓤 𝓛.H 𝓛.laws 𝓣) Known-step)
 
 pub read_spec : {M : Type 1} → stated.statement M
 unfolding code.routine tables_of

@@ -1,49 +1,49 @@
 use borrow.Author.Rules.{rules}
-use Rattle.bits.proofs.Answers.{read-width, read_short, read-value}
+use Rattle.bits.proofs.Answers.{read_width, read_short, read-value}
 use Prim.Native.Nat.{◌+◌, ◌*◌}
 use Rattle.bits.proofs.read.read_bits.Statement.{statement}
 use Rattle.bits.proofs.read.read_bits.Tie as tie
 
-settle-requires : tie.Need-settle-requires
-settle-requires c κs = search rules
+settle_requires : tie.Need-settle-requires
+settle_requires c κs = search rules
 
-needed-requires : tie.Need-needed-requires
-needed-requires c κs = search rules
+needed_requires : tie.Need-needed-requires
+needed_requires c κs = search rules
 
-left-at-requires : tie.Need-left-at-requires
-left-at-requires c κs = search rules
+left_at_requires : tie.Need-left-at-requires
+left_at_requires c κs = search rules
 
 returns : tie.Need-returns
-returns c = read-width _ _ _ c.if1.true
+returns c = read_width _ _ _ c.if1.true
 
-returns-2 : tie.Need-returns-2
-returns-2 c =
+returns_2 : tie.Need-returns-2
+returns_2 c =
     let w = c.before.before.before.before in
     let p = w.settle.result in
     read_short _ _ _ (p.byte * 8 + p.bit) (search rules) w.settle.ensures.pos w.settle.ensures.within (search rules) c.left_at.ensures
 
-take-bits-requires : tie.Need-take-bits-requires
-take-bits-requires c κs = search rules
+take_bits_requires : tie.Need-take-bits-requires
+take_bits_requires c κs = search rules
 
-after-requires : tie.Need-after-requires
-after-requires c κs = search rules
+after_requires : tie.Need-after-requires
+after_requires c κs = search rules
 
-returns-3 : tie.Need-returns-3
-returns-3 c =
+returns_3 : tie.Need-returns-3
+returns_3 c =
     let w = c.before.before.before.before.before in
     let p = w.settle.result in
     read-value _ _ _ (p.byte * 8 + p.bit) (search rules) w.settle.ensures.pos (search rules)
     c.before.take-bits.ensures c.after.ensures
 
-pub read-bits-spec : {M : Type 1} → statement M
-read-bits-spec =
+pub read_bits_spec : {M : Type 1} → statement M
+read_bits_spec =
     tie.close
     (tie.spec
-    settle-requires
-    needed-requires
+    settle_requires
+    needed_requires
     returns
-    left-at-requires
-    returns-2
-    take-bits-requires
-    after-requires
-    returns-3)
+    left_at_requires
+    returns_2
+    take_bits_requires
+    after_requires
+    returns_3)

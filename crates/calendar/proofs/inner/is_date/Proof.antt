@@ -1,41 +1,41 @@
-use Rattle.calendar.proofs.Calls.{no-year, no-month, month-in, no-day, all-but-clock}
+use Rattle.calendar.proofs.Calls.{no_year, no_month, month_in, no_day, all_but_clock}
 use borrow.Author.Rules.{rules}
 use Rattle.calendar.proofs.inner.is_date.Statement.{statement}
 use Rattle.calendar.proofs.inner.is_date.Tie as tie
 
-is-within-requires : tie.Need-is-within-requires
-is-within-requires c κs = search rules
+is_within_requires : tie.Need-is-within-requires
+is_within_requires c κs = search rules
 
-is-within-requires-2 : tie.Need-is-within-requires-2
-is-within-requires-2 c κs = search rules
+is_within_requires_2 : tie.Need-is-within-requires-2
+is_within_requires_2 c κs = search rules
 
-is-day-requires : tie.Need-is-day-requires
-is-day-requires c κs = month-in c.before.before.before.before.args.d c.before.before.before.is_Within.result c.before.before.before.is_Within.ensures c.before.before.if1.true c.before.is-within2.result c.before.is-within2.ensures c.if2.true
+is_day_requires : tie.Need-is-day-requires
+is_day_requires c κs = month_in c.before.before.before.before.args.d c.before.before.before.is_Within.result c.before.before.before.is_Within.ensures c.before.before.if1.true c.before.is-within2.result c.before.is-within2.ensures c.if2.true
 
-is-time-requires : tie.Need-is-time-requires
-is-time-requires c κs = search rules
+is_time_requires : tie.Need-is-time-requires
+is_time_requires c κs = search rules
 
 returns : tie.Need-returns
-returns c = all-but-clock c.before.before.before.before.before.before.before.args.d c.before.before.before.before.before.before.is_Within.result c.before.before.before.before.before.before.is_Within.ensures c.before.before.before.before.before.if1.true c.before.before.before.before.is-within2.result c.before.before.before.before.is-within2.ensures c.before.before.before.if2.true c.before.before.is-day.result c.before.before.is-day.ensures c.is-time.result c.before.if3.true c.is-time.ensures
+returns c = all_but_clock c.before.before.before.before.before.before.before.args.d c.before.before.before.before.before.before.is_Within.result c.before.before.before.before.before.before.is_Within.ensures c.before.before.before.before.before.if1.true c.before.before.before.before.is-within2.result c.before.before.before.before.is-within2.ensures c.before.before.before.if2.true c.before.before.is-day.result c.before.before.is-day.ensures c.is-time.result c.before.if3.true c.is-time.ensures
 
-returns-2 : tie.Need-returns-2
-returns-2 c = no-day c.before.before.before.before.before.before.args.d c.before.before.before.before.before.is_Within.result c.before.before.before.before.before.is_Within.ensures c.before.before.before.before.if1.true c.before.before.before.is-within2.result c.before.before.before.is-within2.ensures c.before.before.if2.true c.before.is-day.result c.before.is-day.ensures c.if3.false
+returns_2 : tie.Need-returns-2
+returns_2 c = no_day c.before.before.before.before.before.before.args.d c.before.before.before.before.before.is_Within.result c.before.before.before.before.before.is_Within.ensures c.before.before.before.before.if1.true c.before.before.before.is-within2.result c.before.before.before.is-within2.ensures c.before.before.if2.true c.before.is-day.result c.before.is-day.ensures c.if3.false
 
-returns-3 : tie.Need-returns-3
-returns-3 c = no-month c.before.before.before.before.args.d c.before.before.before.is_Within.result c.before.before.before.is_Within.ensures c.before.before.if1.true c.before.is-within2.result c.before.is-within2.ensures c.if2.false
+returns_3 : tie.Need-returns-3
+returns_3 c = no_month c.before.before.before.before.args.d c.before.before.before.is_Within.result c.before.before.before.is_Within.ensures c.before.before.if1.true c.before.is-within2.result c.before.is-within2.ensures c.if2.false
 
-returns-4 : tie.Need-returns-4
-returns-4 c = no-year c.before.before.args.d c.before.is_Within.result c.before.is_Within.ensures c.if1.false
+returns_4 : tie.Need-returns-4
+returns_4 c = no_year c.before.before.args.d c.before.is_Within.result c.before.is_Within.ensures c.if1.false
 
-pub is-date-spec : {M : Type 1} → statement M
-is-date-spec =
+pub is_date_spec : {M : Type 1} → statement M
+is_date_spec =
     tie.close
     (tie.spec
-    is-within-requires
-    is-within-requires-2
-    is-day-requires
-    is-time-requires
+    is_within_requires
+    is_within_requires_2
+    is_day_requires
+    is_time_requires
     returns
-    returns-2
-    returns-3
-    returns-4)
+    returns_2
+    returns_3
+    returns_4)

@@ -1,23 +1,23 @@
 use mathlib.Core.Path.{sym}
-use Rattle.calendar.proofs.YearDays.{closed-form}
+use Rattle.calendar.proofs.YearDays.{closed_form}
 use borrow.Author.Rules.{rules}
 use Rattle.calendar.proofs.years.days_of_years.Statement.{statement}
 use Rattle.calendar.proofs.years.days_of_years.Tie as tie
 
-mul-result : tie.Need-overflow-mul-result
-mul-result c = search rules
+mul_result : tie.Need-overflow-mul-result
+mul_result c = search rules
 
-add-result : tie.Need-overflow-add-result
-add-result c = search rules
+add_result : tie.Need-overflow-add-result
+add_result c = search rules
 
-sub-result : tie.Need-overflow-sub-result
-sub-result c = search rules
+sub_result : tie.Need-overflow-sub-result
+sub_result c = search rules
 
-add-result-2 : tie.Need-overflow-add-result-2
-add-result-2 c = search rules
+add_result_2 : tie.Need-overflow-add-result-2
+add_result_2 c = search rules
 
 returns : tie.Need-returns
-returns c = sym (closed-form _)
+returns c = sym (closed_form _)
 
-pub days-of-years-spec : {M : Type 1} → statement M
-days-of-years-spec = tie.close (tie.spec mul-result add-result sub-result add-result-2 returns)
+pub days_of_years_spec : {M : Type 1} → statement M
+days_of_years_spec = tie.close (tie.spec mul_result add_result sub_result add_result_2 returns)

@@ -5,52 +5,52 @@ use Rattle.call_answers.proofs.inner.of_asked.Tie as tie
 enum_told : tie.Need-enum-told
 enum_told c = search rules
 
-answer-requires : tie.Need-answer-requires
-answer-requires c κs = search rules
+answer_requires : tie.Need-answer-requires
+answer_requires c κs = search rules
 
-enum-told-2 : tie.Need-enum-told-2
-enum-told-2 c = search rules
+enum_told_2 : tie.Need-enum-told-2
+enum_told_2 c = search rules
 
-answer-requires-2 : tie.Need-answer-requires-2
-answer-requires-2 c κs = search rules
+answer_requires_2 : tie.Need-answer-requires-2
+answer_requires_2 c κs = search rules
 
-enum-told-3 : tie.Need-enum-told-3
-enum-told-3 c = search rules
+enum_told_3 : tie.Need-enum-told-3
+enum_told_3 c = search rules
 
-answer-requires-3 : tie.Need-answer-requires-3
-answer-requires-3 c κs = search rules
+answer_requires_3 : tie.Need-answer-requires-3
+answer_requires_3 c κs = search rules
 
-enum-known-asked : tie.Need-enum-known-asked
-enum-known-asked c = search rules
+enum_known_asked : tie.Need-enum-known-asked
+enum_known_asked c = search rules
 
-of-table-requires : tie.Need-of-table-requires
-of-table-requires c κs = search rules
+of-table_requires : tie.Need-of-table-requires
+of-table_requires c κs = search rules
 
 returns : tie.Need-returns
 returns c = rw (c.answer.ensures, c.before.enum_told.given.1)
 
-returns-2 : tie.Need-returns-2
-returns-2 c = rw (c.answer2.ensures, c.before.enum-told2.given.1)
+returns_2 : tie.Need-returns-2
+returns_2 c = rw (c.answer2.ensures, c.before.enum-told2.given.1)
 
-returns-3 : tie.Need-returns-3
-returns-3 c = rw (c.answer3.ensures, c.before.enum-told3.given.1)
+returns_3 : tie.Need-returns-3
+returns_3 c = rw (c.answer3.ensures, c.before.enum-told3.given.1)
 
-returns-4 : tie.Need-returns-4
-returns-4 c = rw (c.of-table.ensures, c.before.before.asked.given.1)
+returns_4 : tie.Need-returns-4
+returns_4 c = rw (c.of-table.ensures, c.before.before.asked.given.1)
 
-pub of-asked-spec : {M : Type 1} → statement M
-of-asked-spec =
+pub of_asked_spec : {M : Type 1} → statement M
+of_asked_spec =
     tie.close
     (tie.spec
     enum_told
-    answer-requires
-    enum-told-2
-    answer-requires-2
-    enum-told-3
-    answer-requires-3
-    enum-known-asked
-    of-table-requires
+    answer_requires
+    enum_told_2
+    answer_requires_2
+    enum_told_3
+    answer_requires_3
+    enum_known_asked
+    of-table_requires
     returns
-    returns-2
-    returns-3
-    returns-4)
+    returns_2
+    returns_3
+    returns_4)

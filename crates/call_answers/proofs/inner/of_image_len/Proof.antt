@@ -2,25 +2,25 @@ use borrow.Author.Rules.{rules}
 use Rattle.call_answers.proofs.inner.of_image_len.Statement.{statement}
 use Rattle.call_answers.proofs.inner.of_image_len.Tie as tie
 
-enum-known-len : tie.Need-enum-known-len
-enum-known-len c = search rules
+enum_known_len : tie.Need-enum-known-len
+enum_known_len c = search rules
 
-answer-requires : tie.Need-answer-requires
-answer-requires c κs = search rules
+answer_requires : tie.Need-answer-requires
+answer_requires c κs = search rules
 
-enum-known-len-2 : tie.Need-enum-known-len-2
-enum-known-len-2 c = search rules
+enum_known_len_2 : tie.Need-enum-known-len-2
+enum_known_len_2 c = search rules
 
-reading-requires : tie.Need-reading-requires
-reading-requires c κs = search rules
+reading_requires : tie.Need-reading-requires
+reading_requires c κs = search rules
 
 returns : tie.Need-returns
 returns c = rw (c.answer.ensures, c.before.before.len.given.1)
 
-returns-2 : tie.Need-returns-2
-returns-2 c = rw (c.reading.ensures, c.before.before.len2.given.1)
+returns_2 : tie.Need-returns-2
+returns_2 c = rw (c.reading.ensures, c.before.before.len2.given.1)
 
-pub of-image-len-spec : {M : Type 1} → statement M
-of-image-len-spec =
+pub of_image_len_spec : {M : Type 1} → statement M
+of_image_len_spec =
     tie.close
-    (tie.spec enum-known-len answer-requires enum-known-len-2 reading-requires returns returns-2)
+    (tie.spec enum_known_len answer_requires enum_known_len_2 reading_requires returns returns_2)

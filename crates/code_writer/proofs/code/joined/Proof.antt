@@ -17,22 +17,22 @@ whole p n w x h k l =
 whole_of : (st : tie.Start) → (st.args.a.value * 2 ^ st.args.b.width % 2 ^ 64 ≡ st.args.a.value * 2 ^ st.args.b.width) × (st.args.a.value * 2 ^ st.args.b.width + st.args.b.value < 2 ^ 64)
 whole_of st = whole st.args.a.value st.args.a.width st.args.b.width st.args.b.value st.requires.0 st.requires.1 st.requires.2
 
-cast-t3 : tie.Need-overflow-cast-t3
-cast-t3 c = search rules
+cast_t3 : tie.Need-overflow-cast-t3
+cast_t3 c = search rules
 
-shl-t4 : tie.Need-overflow-shl-t4
-shl-t4 c = search rules
+shl_t4 : tie.Need-overflow-shl-t4
+shl_t4 c = search rules
 
-add-t5 : tie.Need-overflow-add-t5
-add-t5 c = omega (arith, whole_of c.before.before.before)
+add_t5 : tie.Need-overflow-add-t5
+add_t5 c = omega (arith, whole_of c.before.before.before)
 
-add-t6 : tie.Need-overflow-add-t6
-add-t6 c = search rules
+add_t6 : tie.Need-overflow-add-t6
+add_t6 c = search rules
 
 returns : tie.Need-returns
 returns c =
     let st = c.before.before.before.before.before in
     ap (λ (u : ℕ). record { value = u + st.args.b.value; width = st.args.a.width + st.args.b.width }) (whole_of st).0
 
-pub joined-spec : {M : Type 1} → statement M
-joined-spec = tie.close (tie.spec cast-t3 shl-t4 add-t5 add-t6 returns)
+pub joined_spec : {M : Type 1} → statement M
+joined_spec = tie.close (tie.spec cast_t3 shl_t4 add_t5 add_t6 returns)

@@ -10,8 +10,8 @@ use Rattle.code_writer.proofs.code.takes_zero.Tie as tie
 returns : tie.Need-returns
 returns c h = (ltb-true _ _ h, sym (to_z-of_z c.before.ranges.dod) ∙ ap (to_z w64) c.if1.true)
 
-returns-2 : tie.Need-returns-2
-returns-2 c h = absurd (false≢true h)
+returns_2 : tie.Need-returns-2
+returns_2 c h = absurd (false≢true h)
 
-pub takes-zero-spec : {M : Type 1} → statement M
-takes-zero-spec = tie.close (tie.spec returns returns-2)
+pub takes_zero_spec : {M : Type 1} → statement M
+takes_zero_spec = tie.close (tie.spec returns returns_2)

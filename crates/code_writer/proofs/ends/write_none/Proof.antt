@@ -2,16 +2,16 @@ use native.Mathlib.Nat.{add-zero}
 use Prim.Native.Nat.{ℕ, ◌*◌}
 use mathlib.Core.Path.{ap, ◌∙◌}
 use borrow.Author.Rules.{rules}
-use Rattle.bit_lists.specs.BitList.{natBits}
-use Rattle.raw_bits.specs.Inner.{putList}
+use Rattle.bit_lists.specs.BitList.{nat_bits}
+use Rattle.raw_bits.specs.Inner.{put_list}
 use Rattle.code_writer.proofs.ends.write_none.Statement.{statement}
 use Rattle.code_writer.proofs.ends.write_none.Tie as tie
 
-put-requires : tie.Need-put-requires
-put-requires c κs = search rules
+put_requires : tie.Need-put-requires
+put_requires c κs = search rules
 
-add-result : tie.Need-overflow-add-result
-add-result c = search rules
+add_result : tie.Need-overflow-add-result
+add_result c = search rules
 
 same_length : tie.Need-same-length
 same_length c = search rules
@@ -20,7 +20,7 @@ returns : tie.Need-returns
 returns c =
     let pt = c.before.before in
     let st = pt.before.before.before in
-    (search rules, pt.put.ensures.1 ∙ ap (λ (q : ℕ). putList st.args.buf.now q (natBits 32 0)) (add-zero (st.args.from * 8)))
+    (search rules, pt.put.ensures.1 ∙ ap (λ (q : ℕ). put_list st.args.buf.now q (nat_bits 32 0)) (add-zero (st.args.from * 8)))
 
-pub write-none-spec : {M : Type 1} → statement M
-write-none-spec = tie.close (tie.spec put-requires add-result same_length returns)
+pub write_none_spec : {M : Type 1} → statement M
+write_none_spec = tie.close (tie.spec put_requires add_result same_length returns)

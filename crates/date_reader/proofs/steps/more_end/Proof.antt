@@ -1,4 +1,4 @@
-use Rattle.date_reader.proofs.Parts.{Passed, passed-more, passed-end, passed-all}
+use Rattle.date_reader.proofs.Parts.{Passed, passed_more, passed_end, passed_all}
 use Prim.Native.Nat.{◌-◌}
 use mathlib.Core.Path.{refl}
 use native.Mathlib.Omega.{arith}
@@ -6,47 +6,47 @@ use borrow.Author.Rules.{rules}
 use Rattle.date_reader.proofs.steps.more_end.Statement.{statement}
 use Rattle.date_reader.proofs.steps.more_end.Tie as tie
 
-abbrev invariant-loop : tie.invariant-loop
-invariant-loop s at p₀ k₀ p k = Passed s at p k
+abbrev invariant_loop : tie.invariant_loop
+invariant_loop s at p₀ k₀ p k = Passed s at p k
 
-abbrev decreases-loop : tie.decreases-loop
-decreases-loop s at p₀ k₀ p k = 8 - k
+abbrev decreases_loop : tie.decreases_loop
+decreases_loop s at p₀ k₀ p k = 8 - k
 
-loop-holds : tie.Need-loop-init invariant-loop decreases-loop
-loop-holds c = record { most = omega arith; from = omega arith; inside = c.before.requires; rest = refl }
+loop_holds : tie.Need-loop-init invariant_loop decreases_loop
+loop_holds c = record { most = omega arith; from = omega arith; inside = c.before.requires; rest = refl }
 
-digit-at-requires : tie.Need-digit-at-requires invariant-loop decreases-loop
-digit-at-requires c κs = search rules
+digit-at_requires : tie.Need-digit-at-requires invariant_loop decreases_loop
+digit-at_requires c κs = search rules
 
-returns : tie.Need-returns invariant-loop decreases-loop
-returns c = let t = c.before.before in passed-end _ _ _ _ t.before.loop.invariant _ t.loop-test.true c.before.digit_at.ensures c.if1.true
+returns : tie.Need-returns invariant_loop decreases_loop
+returns c = let t = c.before.before in passed_end _ _ _ _ t.before.loop.invariant _ t.loop-test.true c.before.digit_at.ensures c.if1.true
 
-add-p : tie.Need-overflow-add-p invariant-loop decreases-loop
-add-p c = omega (arith, c.before.digit_at.ensures.inside c.if1.false)
+add_p : tie.Need-overflow-add-p invariant_loop decreases_loop
+add_p c = omega (arith, c.before.digit_at.ensures.inside c.if1.false)
 
-add-k : tie.Need-overflow-add-k invariant-loop decreases-loop
-add-k c = search rules
+add_k : tie.Need-overflow-add-k invariant_loop decreases_loop
+add_k c = search rules
 
-loop-less : tie.Need-loop-smaller invariant-loop decreases-loop
-loop-less c = search rules
+loop_less : tie.Need-loop-smaller invariant_loop decreases_loop
+loop_less c = search rules
 
-loop-again : tie.Need-loop-preserved invariant-loop decreases-loop
-loop-again c = let t = c.before.before in passed-more _ _ _ _ t.before.loop.invariant _ t.loop-test.true c.before.digit_at.ensures c.if1.false
+loop_again : tie.Need-loop-preserved invariant_loop decreases_loop
+loop_again c = let t = c.before.before in passed_more _ _ _ _ t.before.loop.invariant _ t.loop-test.true c.before.digit_at.ensures c.if1.false
 
-returns-2 : tie.Need-returns-2 invariant-loop decreases-loop
-returns-2 c = passed-all _ _ _ _ c.before.loop.invariant c.loop-test.false
+returns_2 : tie.Need-returns-2 invariant_loop decreases_loop
+returns_2 c = passed_all _ _ _ _ c.before.loop.invariant c.loop-test.false
 
-pub more-end-spec : {M : Type 1} → statement M
-more-end-spec =
+pub more_end_spec : {M : Type 1} → statement M
+more_end_spec =
     tie.close
     (tie.spec
-    invariant-loop
-    decreases-loop
-    loop-holds
-    digit-at-requires
+    invariant_loop
+    decreases_loop
+    loop_holds
+    digit-at_requires
     returns
-    add-p
-    add-k
-    loop-less
-    loop-again
-    returns-2)
+    add_p
+    add_k
+    loop_less
+    loop_again
+    returns_2)

@@ -4,15 +4,15 @@ use mir.Syntax.{w64}
 use mir.Val.{SFits}
 use mir.Facts.{to_z-of_z}
 use borrow.Author.Rules.{sfits_of}
-use Rattle.signed.specs.Signed.{addS}
+use Rattle.signed.specs.Signed.{add_s}
 use Rattle.gorilla.proofs.inner.follow.Statement.{statement}
 use Rattle.gorilla.proofs.inner.follow.Tie as tie
 
-wrapping-add-requires : tie.Need-wrapping-add-requires
-wrapping-add-requires c κs = search rules
+wrapping_add_requires : tie.Need-wrapping-add-requires
+wrapping_add_requires c κs = search rules
 
-wrapping-add-requires-2 : tie.Need-wrapping-add-requires-2
-wrapping-add-requires-2 c κs = search rules
+wrapping_add_requires_2 : tie.Need-wrapping-add-requires-2
+wrapping_add_requires_2 c κs = search rules
 
 returns : tie.Need-returns
 returns c =
@@ -22,9 +22,9 @@ returns c =
     let fe : SFits w64 at.args.t.delta = search rules in
     let f₁ : SFits w64 c₁.wrapping_add.result = sfits_of c₁.wrapping_add.type-inv in
     let f₂ : SFits w64 c.wrapping-add2.result = sfits_of c.wrapping-add2.type-inv in
-    let u : c₁.wrapping_add.result ≡ addS at.args.t.delta at.args.dod = rw (to_z-of_z at.ranges.dod, to_z-of_z fe) at c₁.wrapping_add.ensures in
-    let v : c.wrapping-add2.result ≡ addS at.args.t.prev c₁.wrapping_add.result = rw (to_z-of_z f₁, to_z-of_z fp) at c.wrapping-add2.ensures in
+    let u : c₁.wrapping_add.result ≡ add_s at.args.t.delta at.args.dod = rw (to_z-of_z at.ranges.dod, to_z-of_z fe) at c₁.wrapping_add.ensures in
+    let v : c.wrapping-add2.result ≡ add_s at.args.t.prev c₁.wrapping_add.result = rw (to_z-of_z f₁, to_z-of_z fp) at c.wrapping-add2.ensures in
     rw (to_z-of_z f₁, to_z-of_z f₂, v, u)
 
-pub follow-spec : {M : Type 1} → statement M
-follow-spec = tie.close (tie.spec wrapping-add-requires wrapping-add-requires-2 returns)
+pub follow_spec : {M : Type 1} → statement M
+follow_spec = tie.close (tie.spec wrapping_add_requires wrapping_add_requires_2 returns)

@@ -11,10 +11,10 @@ returns c =
     let e : lt_z c.before.args.s (negsuc 62135596799) ≡ true = rw (to_z-of_z c.before.ranges.s) at c.if1.true in
     rw e
 
-returns-2 : tie.Need-returns-2
-returns-2 c =
+returns_2 : tie.Need-returns-2
+returns_2 c =
     let e : lt_z c.before.args.s (negsuc 62135596799) ≡ false = rw (to_z-of_z c.before.ranges.s) at c.if1.false in
     rw (to_z-of_z c.before.ranges.s, e)
 
-pub out-of-domain-spec : {M : Type 1} → statement M
-out-of-domain-spec = tie.close (tie.spec returns returns-2)
+pub out-of_domain_spec : {M : Type 1} → statement M
+out-of_domain_spec = tie.close (tie.spec returns returns_2)

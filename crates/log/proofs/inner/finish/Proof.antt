@@ -5,21 +5,21 @@ use Rattle.log.proofs.inner.finish.Tie as tie
 enum_told : tie.Need-enum-told
 enum_told c = search rules
 
-enum-known-phase : tie.Need-enum-known-phase
-enum-known-phase c = search rules
+enum_known_phase : tie.Need-enum-known-phase
+enum_known_phase c = search rules
 
-enum-known-phase-2 : tie.Need-enum-known-phase-2
-enum-known-phase-2 c = search rules
+enum_known_phase_2 : tie.Need-enum-known-phase-2
+enum_known_phase_2 c = search rules
 
 returns : tie.Need-returns
 returns c = rw c.enum_told.given.1
 
-returns-2 : tie.Need-returns-2
-returns-2 c = rw c.before.phase.given.1
+returns_2 : tie.Need-returns-2
+returns_2 c = rw c.before.phase.given.1
 
-returns-3 : tie.Need-returns-3
-returns-3 c = rw c.before.phase2.given.1
+returns_3 : tie.Need-returns-3
+returns_3 c = rw c.before.phase2.given.1
 
 pub finish_spec : {M : Type 1} → statement M
 finish_spec =
-    tie.close (tie.spec enum_told enum-known-phase enum-known-phase-2 returns returns-2 returns-3)
+    tie.close (tie.spec enum_told enum_known_phase enum_known_phase_2 returns returns_2 returns_3)

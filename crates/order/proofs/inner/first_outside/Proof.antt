@@ -2,50 +2,50 @@ use native.Mathlib.Omega.{arith}
 use Prim.Native.Nat.{ℕ, ◌-◌, ◌<◌}
 use mathlib.Core.Path.{◌≡◌, sym, ◌∙◌}
 use mathlib.Core.Bool.{false}
-use Rattle.order.specs.Order.{secOutside}
+use Rattle.order.specs.Order.{sec_outside}
 use borrow.Author.Rules.{rules}
 use borrow.Author.Count.{below_more, below_none}
-use Rattle.order.proofs.First.{first-hit, first-none}
+use Rattle.order.proofs.First.{first_hit, first-none}
 use Rattle.order.proofs.inner.first_outside.Statement.{statement}
 use Rattle.order.proofs.inner.first_outside.Tie as tie
 
-abbrev invariant-loop : tie.invariant-loop
-invariant-loop secs n i₀ i = (j : ℕ) → j < i → secOutside secs j ≡ false
+abbrev invariant_loop : tie.invariant_loop
+invariant_loop secs n i₀ i = (j : ℕ) → j < i → sec_outside secs j ≡ false
 
-abbrev decreases-loop : tie.decreases-loop
-decreases-loop secs n i₀ i = n - i
+abbrev decreases_loop : tie.decreases_loop
+decreases_loop secs n i₀ i = n - i
 
-loop-holds : tie.Need-loop-init invariant-loop decreases-loop
-loop-holds c = below_none _
+loop_holds : tie.Need-loop-init invariant_loop decreases_loop
+loop_holds c = below_none _
 
-sec-outside-at-requires : tie.Need-sec-outside-at-requires invariant-loop decreases-loop
-sec-outside-at-requires c κs = search rules
+sec_outside-at_requires : tie.Need-sec-outside-at-requires invariant_loop decreases_loop
+sec_outside-at_requires c κs = search rules
 
-returns : tie.Need-returns invariant-loop decreases-loop
-returns c = sym (first-hit _ _ _ (omega arith) c.before.before.before.loop.invariant (sym c.before.sec-outside-at.ensures ∙ c.if1.true))
+returns : tie.Need-returns invariant_loop decreases_loop
+returns c = sym (first_hit _ _ _ (omega arith) c.before.before.before.loop.invariant (sym c.before.sec-outside-at.ensures ∙ c.if1.true))
 
-add-i : tie.Need-overflow-add-i invariant-loop decreases-loop
-add-i c = omega arith
+add_i : tie.Need-overflow-add-i invariant_loop decreases_loop
+add_i c = omega arith
 
-loop-less : tie.Need-loop-smaller invariant-loop decreases-loop
-loop-less c = omega arith
+loop_less : tie.Need-loop-smaller invariant_loop decreases_loop
+loop_less c = omega arith
 
-loop-again : tie.Need-loop-preserved invariant-loop decreases-loop
-loop-again c = below_more _ _ c.before.before.before.loop.invariant (sym c.before.sec-outside-at.ensures ∙ c.if1.false)
+loop_again : tie.Need-loop-preserved invariant_loop decreases_loop
+loop_again c = below_more _ _ c.before.before.before.loop.invariant (sym c.before.sec-outside-at.ensures ∙ c.if1.false)
 
-returns-2 : tie.Need-returns-2 invariant-loop decreases-loop
-returns-2 c = sym (first-none _ _ _ c.loop-test.false c.before.loop.invariant)
+returns_2 : tie.Need-returns-2 invariant_loop decreases_loop
+returns_2 c = sym (first-none _ _ _ c.loop-test.false c.before.loop.invariant)
 
-pub first-outside-spec : {M : Type 1} → statement M
-first-outside-spec =
+pub first-outside_spec : {M : Type 1} → statement M
+first-outside_spec =
     tie.close
     (tie.spec
-    invariant-loop
-    decreases-loop
-    loop-holds
-    sec-outside-at-requires
+    invariant_loop
+    decreases_loop
+    loop_holds
+    sec_outside-at_requires
     returns
-    add-i
-    loop-less
-    loop-again
-    returns-2)
+    add_i
+    loop_less
+    loop_again
+    returns_2)

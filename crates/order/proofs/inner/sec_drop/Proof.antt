@@ -7,51 +7,51 @@ use mathlib.Core.Bool.{false}
 use Prim.Native.Nat.{ℕ, ◌≤◌, ◌<◌, ◌-◌}
 use native.Mathlib.Omega.{arith}
 use Rattle.order.specs.Order.{drops}
-use Rattle.order.proofs.First.{first-hit, first-none}
+use Rattle.order.proofs.First.{first_hit, first-none}
 use Rattle.order.proofs.inner.sec_drop.Statement.{statement}
 use Rattle.order.proofs.inner.sec_drop.Tie as tie
 
-abbrev invariant-loop : tie.invariant-loop
-invariant-loop secs n i₀ i = (1 ≤ i) × ((j : ℕ) → j < i → drops lt_z (pos 0) secs j ≡ false)
+abbrev invariant_loop : tie.invariant_loop
+invariant_loop secs n i₀ i = (1 ≤ i) × ((j : ℕ) → j < i → drops lt_z (pos 0) secs j ≡ false)
 
-abbrev decreases-loop : tie.decreases-loop
-decreases-loop secs n i₀ i = n - i
+abbrev decreases_loop : tie.decreases_loop
+decreases_loop secs n i₀ i = n - i
 
-loop-holds : tie.Need-loop-init invariant-loop decreases-loop
-loop-holds c = c.sec-steady.ensures
+loop_holds : tie.Need-loop-init invariant_loop decreases_loop
+loop_holds c = c.sec-steady.ensures
 
-sec-drops-at-requires : tie.Need-sec-drops-at-requires invariant-loop decreases-loop
-sec-drops-at-requires c κs = search rules
+sec_drops-at_requires : tie.Need-sec-drops-at-requires invariant_loop decreases_loop
+sec_drops-at_requires c κs = search rules
 
-returns : tie.Need-returns invariant-loop decreases-loop
-returns c = sym (first-hit _ _ _ (omega arith) c.before.before.before.loop.invariant.1 (sym c.before.sec-drops-at.ensures ∙ c.if1.true))
+returns : tie.Need-returns invariant_loop decreases_loop
+returns c = sym (first_hit _ _ _ (omega arith) c.before.before.before.loop.invariant.1 (sym c.before.sec-drops-at.ensures ∙ c.if1.true))
 
-add-i : tie.Need-overflow-add-i invariant-loop decreases-loop
-add-i c = omega arith
+add_i : tie.Need-overflow-add-i invariant_loop decreases_loop
+add_i c = omega arith
 
-loop-less : tie.Need-loop-smaller invariant-loop decreases-loop
-loop-less c = omega arith
+loop_less : tie.Need-loop-smaller invariant_loop decreases_loop
+loop_less c = omega arith
 
-loop-again : tie.Need-loop-preserved invariant-loop decreases-loop
-loop-again c = (omega arith, below_more _ _ c.before.before.before.loop.invariant.1 (sym c.before.sec-drops-at.ensures ∙ c.if1.false))
+loop_again : tie.Need-loop-preserved invariant_loop decreases_loop
+loop_again c = (omega arith, below_more _ _ c.before.before.before.loop.invariant.1 (sym c.before.sec-drops-at.ensures ∙ c.if1.false))
 
-returns-2 : tie.Need-returns-2 invariant-loop decreases-loop
-returns-2 c = sym (first-none _ _ _ c.loop-test.false c.before.loop.invariant.1)
+returns_2 : tie.Need-returns-2 invariant_loop decreases_loop
+returns_2 c = sym (first-none _ _ _ c.loop-test.false c.before.loop.invariant.1)
 
-sec-steady-requires : tie.Need-sec-steady-requires invariant-loop decreases-loop
-sec-steady-requires c κs = search rules
+sec_steady_requires : tie.Need-sec-steady-requires invariant_loop decreases_loop
+sec_steady_requires c κs = search rules
 
-pub sec-drop-spec : {M : Type 1} → statement M
-sec-drop-spec =
+pub sec_drop_spec : {M : Type 1} → statement M
+sec_drop_spec =
     tie.close
     (tie.spec
-    invariant-loop
-    decreases-loop
-    sec-steady-requires
-    loop-holds
-    sec-drops-at-requires
+    invariant_loop
+    decreases_loop
+    sec_steady_requires
+    loop_holds
+    sec_drops-at_requires
     returns
-    add-i
-    loop-less
-    loop-again
-    returns-2)
+    add_i
+    loop_less
+    loop_again
+    returns_2)

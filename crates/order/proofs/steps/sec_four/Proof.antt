@@ -3,44 +3,44 @@ use lib.IntN.{pos}
 use mathlib.Core.Path.{refl, sym, ◌∙◌}
 use mathlib.Core.Bool.{true}
 use Rattle.order.specs.Order.{drops}
-use Rattle.order.proofs.Bools.{true-false}
+use Rattle.order.proofs.Bools.{true_false}
 use Rattle.order.proofs.Fours.{all-four}
 use borrow.Author.Rules.{rules}
 use Rattle.order.proofs.steps.sec_four.Statement.{statement}
 use Rattle.order.proofs.steps.sec_four.Tie as tie
 
-sec-drops-at-requires : tie.Need-sec-drops-at-requires
-sec-drops-at-requires c κs = search rules
+sec_drops-at_requires : tie.Need-sec-drops-at-requires
+sec_drops-at_requires c κs = search rules
 
 returns : tie.Need-returns
-returns c = λ e. absurd (true-false true refl e)
+returns c = λ e. absurd (true_false true refl e)
 
-add-sec-drops-at : tie.Need-overflow-add-sec-drops-at
-add-sec-drops-at c = search rules
+add_sec_drops-at : tie.Need-overflow-add-sec-drops-at
+add_sec_drops-at c = search rules
 
-sec-drops-at-requires-2 : tie.Need-sec-drops-at-requires-2
-sec-drops-at-requires-2 c κs = search rules
+sec_drops-at_requires_2 : tie.Need-sec-drops-at-requires-2
+sec_drops-at_requires_2 c κs = search rules
 
-returns-2 : tie.Need-returns-2
-returns-2 c = λ e. absurd (true-false true refl e)
+returns_2 : tie.Need-returns-2
+returns_2 c = λ e. absurd (true_false true refl e)
 
-add-sec-drops-at-2 : tie.Need-overflow-add-sec-drops-at-2
-add-sec-drops-at-2 c = search rules
+add_sec_drops-at_2 : tie.Need-overflow-add-sec-drops-at-2
+add_sec_drops-at_2 c = search rules
 
-sec-drops-at-requires-3 : tie.Need-sec-drops-at-requires-3
-sec-drops-at-requires-3 c κs = search rules
+sec_drops-at_requires_3 : tie.Need-sec-drops-at-requires-3
+sec_drops-at_requires_3 c κs = search rules
 
-returns-3 : tie.Need-returns-3
-returns-3 c = λ e. absurd (true-false true refl e)
+returns_3 : tie.Need-returns-3
+returns_3 c = λ e. absurd (true_false true refl e)
 
-add-sec-drops-at-3 : tie.Need-overflow-add-sec-drops-at-3
-add-sec-drops-at-3 c = search rules
+add_sec_drops-at_3 : tie.Need-overflow-add-sec-drops-at-3
+add_sec_drops-at_3 c = search rules
 
-sec-drops-at-requires-4 : tie.Need-sec-drops-at-requires-4
-sec-drops-at-requires-4 c κs = search rules
+sec_drops-at_requires_4 : tie.Need-sec-drops-at-requires-4
+sec_drops-at_requires_4 c κs = search rules
 
-returns-4 : tie.Need-returns-4
-returns-4 c =
+returns_4 : tie.Need-returns-4
+returns_4 c =
     let e3 = c.before in
     let d3 = e3.before in
     let e2 = d3.before in
@@ -51,18 +51,18 @@ returns-4 c =
     λ e. all-four (drops lt_z (pos 0) st.args.secs.now) st.args.i
     (sym d1.sec-drops-at.ensures ∙ e1.if1.false) (sym d2.sec-drops-at2.ensures ∙ e2.if2.false) (sym d3.sec-drops-at3.ensures ∙ e3.if3.false) (sym c.sec-drops-at4.ensures ∙ e)
 
-pub sec-four-spec : {M : Type 1} → statement M
-sec-four-spec =
+pub sec_four_spec : {M : Type 1} → statement M
+sec_four_spec =
     tie.close
     (tie.spec
-    sec-drops-at-requires
+    sec_drops-at_requires
     returns
-    add-sec-drops-at
-    sec-drops-at-requires-2
-    returns-2
-    add-sec-drops-at-2
-    sec-drops-at-requires-3
-    returns-3
-    add-sec-drops-at-3
-    sec-drops-at-requires-4
-    returns-4)
+    add_sec_drops-at
+    sec_drops-at_requires_2
+    returns_2
+    add_sec_drops-at_2
+    sec_drops-at_requires_3
+    returns_3
+    add_sec_drops-at_3
+    sec_drops-at_requires_4
+    returns_4)

@@ -8,52 +8,52 @@ use lib.IntN.{pos}
 use Rattle.order.specs.Order.{drops}
 use borrow.Author.Rules.{rules}
 use borrow.Author.Count.{below_more, below_none}
-use Rattle.order.proofs.Order.{itself, int-order}
-use Rattle.order.proofs.Fours.{more-four}
+use Rattle.order.proofs.Order.{itself, int_order}
+use Rattle.order.proofs.Fours.{more_four}
 use Rattle.order.proofs.steps.sec_steady.Statement.{statement}
 use Rattle.order.proofs.steps.sec_steady.Tie as tie
 
-abbrev invariant-loop : tie.invariant-loop
-invariant-loop secs n i₀ i = (1 ≤ i) × ((j : ℕ) → j < i → drops lt_z (pos 0) secs j ≡ false) × (i ≤ 8196)
+abbrev invariant_loop : tie.invariant_loop
+invariant_loop secs n i₀ i = (1 ≤ i) × ((j : ℕ) → j < i → drops lt_z (pos 0) secs j ≡ false) × (i ≤ 8196)
 
-abbrev decreases-loop : tie.decreases-loop
-decreases-loop secs n i₀ i = n - i
+abbrev decreases_loop : tie.decreases_loop
+decreases_loop secs n i₀ i = n - i
 
-loop-holds : tie.Need-loop-init invariant-loop decreases-loop
-loop-holds c = (omega arith, below_more _ 0 (below_none _) (itself lt_z int-order (get_or c.args.secs.now 0 (pos 0))), omega arith)
+loop_holds : tie.Need-loop-init invariant_loop decreases_loop
+loop_holds c = (omega arith, below_more _ 0 (below_none _) (itself lt_z int_order (get_or c.args.secs.now 0 (pos 0))), omega arith)
 
-add-loop : tie.Need-overflow-add-loop invariant-loop decreases-loop
-add-loop c = search rules
+add_loop : tie.Need-overflow-add-loop invariant_loop decreases_loop
+add_loop c = search rules
 
-sec-four-requires : tie.Need-sec-four-requires invariant-loop decreases-loop
-sec-four-requires c κs = search rules
+sec_four_requires : tie.Need-sec-four-requires invariant_loop decreases_loop
+sec_four_requires c κs = search rules
 
-returns : tie.Need-returns invariant-loop decreases-loop
+returns : tie.Need-returns invariant_loop decreases_loop
 returns c = let v = c.before.before.before.loop.invariant in (v.0, v.1)
 
-add-i : tie.Need-overflow-add-i invariant-loop decreases-loop
-add-i c = search rules
+add_i : tie.Need-overflow-add-i invariant_loop decreases_loop
+add_i c = search rules
 
-loop-less : tie.Need-loop-smaller invariant-loop decreases-loop
-loop-less c = search rules
+loop_less : tie.Need-loop-smaller invariant_loop decreases_loop
+loop_less c = search rules
 
-loop-again : tie.Need-loop-preserved invariant-loop decreases-loop
-loop-again c = (omega arith, more-four _ _ c.before.before.before.loop.invariant.1 (c.before.sec-four.ensures c.if1.false), omega arith)
+loop_again : tie.Need-loop-preserved invariant_loop decreases_loop
+loop_again c = (omega arith, more_four _ _ c.before.before.before.loop.invariant.1 (c.before.sec-four.ensures c.if1.false), omega arith)
 
-returns-2 : tie.Need-returns-2 invariant-loop decreases-loop
-returns-2 c = let v = c.before.loop.invariant in (v.0, v.1)
+returns_2 : tie.Need-returns-2 invariant_loop decreases_loop
+returns_2 c = let v = c.before.loop.invariant in (v.0, v.1)
 
-pub sec-steady-spec : {M : Type 1} → statement M
-sec-steady-spec =
+pub sec_steady_spec : {M : Type 1} → statement M
+sec_steady_spec =
     tie.close
     (tie.spec
-    invariant-loop
-    decreases-loop
-    loop-holds
-    add-loop
-    sec-four-requires
+    invariant_loop
+    decreases_loop
+    loop_holds
+    add_loop
+    sec_four_requires
     returns
-    add-i
-    loop-less
-    loop-again
-    returns-2)
+    add_i
+    loop_less
+    loop_again
+    returns_2)

@@ -1,19 +1,19 @@
-use Rattle.question_lines.proofs.Parts.{minus-none, minus-some}
+use Rattle.question_lines.proofs.Parts.{minus_none, minus_some}
 use borrow.Author.Rules.{rules}
 use Rattle.question_lines.proofs.steps.negated.Statement.{statement}
 use Rattle.question_lines.proofs.steps.negated.Tie as tie
 
 returns : tie.Need-returns
-returns c = minus-none _ c.if1.true
+returns c = minus_none _ c.if1.true
 
-sub-result : tie.Need-overflow-sub-result
-sub-result c = search rules
+sub_result : tie.Need-overflow-sub-result
+sub_result c = search rules
 
-cast-result : tie.Need-overflow-cast-result
-cast-result c = search rules
+cast_result : tie.Need-overflow-cast-result
+cast_result c = search rules
 
-returns-2 : tie.Need-returns-2
-returns-2 c = minus-some _ c.if1.false c.before.requires
+returns_2 : tie.Need-returns-2
+returns_2 c = minus_some _ c.if1.false c.before.requires
 
-pub negated-spec : {M : Type 1} → statement M
-negated-spec = tie.close (tie.spec returns sub-result cast-result returns-2)
+pub negated_spec : {M : Type 1} → statement M
+negated_spec = tie.close (tie.spec returns sub_result cast_result returns_2)

@@ -8,17 +8,17 @@ use Rattle.raw_bits.proofs.Bits.{one_shl}
 use Rattle.raw_bits.proofs.inner.field.Statement.{statement}
 use Rattle.raw_bits.proofs.inner.field.Tie as tie
 
-shr-result : tie.Need-overflow-shr-result
-shr-result c = search rules
+shr_result : tie.Need-overflow-shr-result
+shr_result c = search rules
 
-shl-result : tie.Need-overflow-shl-result
-shl-result c = search rules
+shl_result : tie.Need-overflow-shl-result
+shl_result c = search rules
 
-sub-result : tie.Need-overflow-sub-result
-sub-result c = omega (arith, one_shl c.args.t (omega arith), pow_pos c.args.t)
+sub_result : tie.Need-overflow-sub-result
+sub_result c = omega (arith, one_shl c.args.t (omega arith), pow_pos c.args.t)
 
 returns : tie.Need-returns
 returns c = ap (λ (u : ℕ). bit_and (c.args.x / 2 ^ c.args.low) (u - 1)) (one_shl c.args.t (omega arith)) ∙ and_mask _ c.args.t
 
-pub field-spec : {M : Type 1} → statement M
-field-spec = tie.close (tie.spec shr-result shl-result sub-result returns)
+pub field_spec : {M : Type 1} → statement M
+field_spec = tie.close (tie.spec shr_result shl_result sub_result returns)

@@ -7,8 +7,8 @@ use borrow.Author.Rules.{rules}
 use Rattle.raw_bits.proofs.inner.join.Statement.{statement}
 use Rattle.raw_bits.proofs.inner.join.Tie as tie
 
-wide-requires : tie.Need-wide-requires
-wide-requires c κs = search rules
+wide_requires : tie.Need-wide-requires
+wide_requires c κs = search rules
 
 returns : tie.Need-returns
 returns c =
@@ -17,5 +17,5 @@ returns c =
     ap (λ (u : ℕ). bit_or u c.wide.result) (shl_exact {a = st.args.v} 56 8 64 st.requires (omega arith))
     ∙ or_shifted st.args.v 8 c.wide.result h ∙ ap (λ (u : ℕ). st.args.v * 256 + u) c.wide.ensures
 
-pub join-spec : {M : Type 1} → statement M
-join-spec = tie.close (tie.spec wide-requires returns)
+pub join_spec : {M : Type 1} → statement M
+join_spec = tie.close (tie.spec wide_requires returns)

@@ -7,46 +7,46 @@ use Rattle.settling.proofs.Copy.{copy_more}
 use Rattle.settling.proofs.inner.copy_seqs.Statement.{statement}
 use Rattle.settling.proofs.inner.copy_seqs.Tie as tie
 
-abbrev invariant-loop : tie.invariant-loop
-invariant-loop to₀ from n i₀ to i = (to ≡ over (take i from) to₀) × (i ≤ n) × (length to ≡ length to₀)
+abbrev invariant_loop : tie.invariant_loop
+invariant_loop to₀ from n i₀ to i = (to ≡ over (take i from) to₀) × (i ≤ n) × (length to ≡ length to₀)
 
-abbrev decreases-loop : tie.decreases-loop
-decreases-loop to₀ from n i₀ to i = n - i
+abbrev decreases_loop : tie.decreases_loop
+decreases_loop to₀ from n i₀ to i = n - i
 
-loop-holds : tie.Need-loop-init invariant-loop decreases-loop
-loop-holds c = (refl, omega arith, refl)
+loop_holds : tie.Need-loop-init invariant_loop decreases_loop
+loop_holds c = (refl, omega arith, refl)
 
-mul-to : tie.Need-overflow-mul-to invariant-loop decreases-loop
-mul-to c = omega arith
+mul_to : tie.Need-overflow-mul-to invariant_loop decreases_loop
+mul_to c = omega arith
 
-shared-slice-read-to : tie.Need-shared-slice-read-to invariant-loop decreases-loop
-shared-slice-read-to c = omega arith
+shared_slice_read_to : tie.Need-shared-slice-read-to invariant_loop decreases_loop
+shared_slice_read_to c = omega arith
 
-mul-to-2 : tie.Need-overflow-mul-to-2 invariant-loop decreases-loop
-mul-to-2 c = omega arith
+mul_to_2 : tie.Need-overflow-mul-to-2 invariant_loop decreases_loop
+mul_to_2 c = omega arith
 
-slice-write-to : tie.Need-slice-write-to invariant-loop decreases-loop
-slice-write-to c = omega arith
+slice_write_to : tie.Need-slice-write-to invariant_loop decreases_loop
+slice_write_to c = omega arith
 
-add-i : tie.Need-overflow-add-i invariant-loop decreases-loop
-add-i c = omega arith
+add_i : tie.Need-overflow-add-i invariant_loop decreases_loop
+add_i c = omega arith
 
-loop-less : tie.Need-loop-smaller invariant-loop decreases-loop
-loop-less c = omega arith
+loop_less : tie.Need-loop-smaller invariant_loop decreases_loop
+loop_less c = omega arith
 
-loop-again : tie.Need-loop-preserved invariant-loop decreases-loop
-loop-again c =
+loop_again : tie.Need-loop-preserved invariant_loop decreases_loop
+loop_again c =
     let l = c.before.before.loop in
     let s = c.before.before.before.args in
     (rw l.invariant.0 (copy_more 0 s.from.now s.to.now l.i (omega arith) (omega arith)), omega arith, simp length-set l.invariant.2)
 
-same_length : tie.Need-same-length invariant-loop decreases-loop
+same_length : tie.Need-same-length invariant_loop decreases_loop
 same_length c = c.before.loop.invariant.2
 
-returns : tie.Need-returns invariant-loop decreases-loop
+returns : tie.Need-returns invariant_loop decreases_loop
 returns c =
     let e : c.before.loop.i ≡ c.before.before.args.n = omega arith in
     rw (← e) c.before.loop.invariant.0
 
-pub copy-seqs-spec : {M : Type 1} → statement M
-copy-seqs-spec = tie.close (tie.spec invariant-loop decreases-loop loop-holds mul-to shared-slice-read-to mul-to-2 slice-write-to add-i loop-less loop-again same_length returns)
+pub copy_seqs_spec : {M : Type 1} → statement M
+copy_seqs_spec = tie.close (tie.spec invariant_loop decreases_loop loop_holds mul_to shared_slice_read_to mul_to_2 slice_write_to add_i loop_less loop_again same_length returns)

@@ -9,17 +9,17 @@ use Rattle.skipping.proofs.inner.went_back.Tie as tie
 enum_told : tie.Need-enum-told
 enum_told c = search rules
 
-enum-known-last : tie.Need-enum-known-last
-enum-known-last c = search rules
+enum_known_last : tie.Need-enum-known-last
+enum_known_last c = search rules
 
 returns : tie.Need-returns
 returns c = search rules
 
-returns-2 : tie.Need-returns-2
-returns-2 c =
+returns_2 : tie.Need-returns-2
+returns_2 c =
     let x = c.before.before.last.given.0.0.0 in
     let r : to_z w64 (of_z w64 x) ≡ x = search rules in
     rw (c.before.before.last.given.1, r, to_z-of_z c.before.before.before.before.ranges.s)
 
-pub went-back-spec : {M : Type 1} → statement M
-went-back-spec = tie.close (tie.spec enum_told enum-known-last returns returns-2)
+pub went_back_spec : {M : Type 1} → statement M
+went_back_spec = tie.close (tie.spec enum_told enum_known_last returns returns_2)

@@ -3,11 +3,11 @@ use borrow.Author.Rules.{rules}
 use Rattle.skutlaneb.proofs.date_calls.skut_write_date.Statement.{statement}
 use Rattle.skutlaneb.proofs.date_calls.skut_write_date.Tie as tie
 
-write-date-requires : tie.Need-write-date-requires
-write-date-requires c κs = search rules
+write_date_requires : tie.Need-write-date-requires
+write_date_requires c κs = search rules
 
-of-date-written-requires : tie.Need-of-date-written-requires
-of-date-written-requires c κs = search rules
+of-date-written_requires : tie.Need-of-date-written-requires
+of-date-written_requires c κs = search rules
 
 same_length : tie.Need-same-length
 same_length c = search rules
@@ -18,6 +18,6 @@ returns c =
     let e = rw (to_z-of_z w.before.before.before.ranges.sec) at w.write-date.ensures in
     (rw (c.of-date-written.ensures, e.0), e.1)
 
-pub skut-write-date-spec : {M : Type 1} → statement M
-skut-write-date-spec =
-    tie.close (tie.spec write-date-requires of-date-written-requires same_length returns)
+pub skut_write_date_spec : {M : Type 1} → statement M
+skut_write_date_spec =
+    tie.close (tie.spec write_date_requires of-date-written_requires same_length returns)

@@ -1,41 +1,41 @@
 use borrow.Author.Rules.{rules}
 use mathlib.Core.Path.{◌∙◌, ap}
-use Rattle.answers.specs.Answer.{ofCheck}
+use Rattle.answers.specs.Answer.{of_check}
 use Rattle.skutlaneb.proofs.question_calls.skut_find_ts_each.Statement.{statement}
 use Rattle.skutlaneb.proofs.question_calls.skut_find_ts_each.Tie as tie
 
-table-of-requires : tie.Need-table-of-requires
-table-of-requires c κs = search rules
+table-of_requires : tie.Need-table-of-requires
+table-of_requires c κs = search rules
 
-round-of-requires : tie.Need-round-of-requires
-round-of-requires c κs = search rules
+round_of_requires : tie.Need-round-of-requires
+round_of_requires c κs = search rules
 
-find-ts-each-requires : tie.Need-find-ts-each-requires
-find-ts-each-requires c κs = search rules
+find_ts_each_requires : tie.Need-find-ts-each-requires
+find_ts_each_requires c κs = search rules
 
-of-asked-requires : tie.Need-of-asked-requires
-of-asked-requires c κs = search rules
+of_asked_requires : tie.Need-of-asked-requires
+of_asked_requires c κs = search rules
 
 same_length : tie.Need-same-length
 same_length c = search rules
 
-same-length-2 : tie.Need-same-length-2
-same-length-2 c = search rules
+same-length_2 : tie.Need-same-length-2
+same-length_2 c = search rules
 
 returns : tie.Need-returns
 returns c =
     let asked = c.before.before.before.before in
     let f = rw (asked.before.before.before.before.table_of.ensures, asked.before.before.before.round-of.ensures) at asked.find-ts-each.ensures in
-    (c.of-asked.ensures ∙ ap ofCheck f.0, f.1)
+    (c.of-asked.ensures ∙ ap of_check f.0, f.1)
 
-pub skut-find-ts-each-spec : {M : Type 1} → statement M
-skut-find-ts-each-spec =
+pub skut_find_ts_each_spec : {M : Type 1} → statement M
+skut_find_ts_each_spec =
     tie.close
     (tie.spec
-    table-of-requires
-    round-of-requires
-    find-ts-each-requires
-    of-asked-requires
+    table-of_requires
+    round_of_requires
+    find_ts_each_requires
+    of_asked_requires
     same_length
-    same-length-2
+    same-length_2
     returns)

@@ -2,22 +2,22 @@ use borrow.Author.Rules.{rules}
 use Rattle.skutlaneb.proofs.store_calls.skut_save_strict.Statement.{statement}
 use Rattle.skutlaneb.proofs.store_calls.skut_save_strict.Tie as tie
 
-table-of-requires : tie.Need-table-of-requires
-table-of-requires c κs = search rules
+table-of_requires : tie.Need-table-of-requires
+table-of_requires c κs = search rules
 
-save-strict-requires : tie.Need-save-strict-requires
-save-strict-requires c κs = search rules
+save-strict_requires : tie.Need-save-strict-requires
+save-strict_requires c κs = search rules
 
-of-saved-requires : tie.Need-of-saved-requires
-of-saved-requires c κs = search rules
+of_saved_requires : tie.Need-of-saved-requires
+of_saved_requires c κs = search rules
 
 same_length : tie.Need-same-length
 same_length c = search rules
 
 returns : tie.Need-returns
-returns c = (rw (c.of-saved.ensures, c.before.before.before.save-strict.ensures.0, c.before.before.before.before.before.table_of.ensures), rw (c.before.before.before.save-strict.ensures.1, c.before.before.before.save-strict.ensures.0, c.before.before.before.before.before.table_of.ensures))
+returns c = (rw (c.of-saved.ensures, c.before.before.before.save_strict.ensures.0, c.before.before.before.before.before.table_of.ensures), rw (c.before.before.before.save_strict.ensures.1, c.before.before.before.save_strict.ensures.0, c.before.before.before.before.before.table_of.ensures))
 
-pub skut-save-strict-spec : {M : Type 1} → statement M
-skut-save-strict-spec =
+pub skut_save-strict_spec : {M : Type 1} → statement M
+skut_save-strict_spec =
     tie.close
-    (tie.spec table-of-requires save-strict-requires of-saved-requires same_length returns)
+    (tie.spec table-of_requires save-strict_requires of_saved_requires same_length returns)

@@ -2,11 +2,11 @@ use borrow.Author.Rules.{rules}
 use Rattle.states.proofs.inner.no_state.Statement.{statement}
 use Rattle.states.proofs.inner.no_state.Tie as tie
 
-no-totals-requires : tie.Need-no-totals-requires
-no-totals-requires c κs = search rules
+no_totals_requires : tie.Need-no-totals-requires
+no_totals_requires c κs = search rules
 
 returns : tie.Need-returns
 returns c = rw c.no-totals.ensures
 
-pub no-state-spec : {M : Type 1} → statement M
-no-state-spec = tie.close (tie.spec no-totals-requires returns)
+pub no_state_spec : {M : Type 1} → statement M
+no_state_spec = tie.close (tie.spec no_totals_requires returns)

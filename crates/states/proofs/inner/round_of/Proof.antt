@@ -5,8 +5,8 @@ use Rattle.states.proofs.inner.round_of.Tie as tie
 returns : tie.Need-returns
 returns c = rw (eq-eqb _ _ c.if1.true)
 
-returns-2 : tie.Need-returns-2
-returns-2 c = rw (ne_eqb _ _ c.if1.false)
+returns_2 : tie.Need-returns-2
+returns_2 c = rw (ne_eqb _ _ c.if1.false)
 
-pub round-of-spec : {M : Type 1} → statement M
-round-of-spec = tie.close (tie.spec returns returns-2)
+pub round_of_spec : {M : Type 1} → statement M
+round_of_spec = tie.close (tie.spec returns returns_2)

@@ -5,11 +5,11 @@ use borrow.Author.Rules.{rules}
 use Rattle.states.proofs.inner.table_of.Statement.{statement}
 use Rattle.states.proofs.inner.table_of.Tie as tie
 
-last-in-requires : tie.Need-last-in-requires
-last-in-requires c κs = search rules
+last_in_requires : tie.Need-last-in-requires
+last_in_requires c κs = search rules
 
-capacity-in-requires : tie.Need-capacity-in-requires
-capacity-in-requires c κs = search rules
+capacity_in_requires : tie.Need-capacity-in-requires
+capacity_in_requires c κs = search rules
 
 returns : tie.Need-returns
 returns c =
@@ -17,5 +17,5 @@ returns c =
     let f : SFits w64 at.args.state.last = search rules in
     rw (c.before.before.last-in.ensures, c.before.capacity-in.ensures, to_z-of_z f)
 
-pub table-of-spec : {M : Type 1} → statement M
-table-of-spec = tie.close (tie.spec last-in-requires capacity-in-requires returns)
+pub table-of_spec : {M : Type 1} → statement M
+table-of_spec = tie.close (tie.spec last_in_requires capacity_in_requires returns)

@@ -2,17 +2,17 @@ use Rattle.std.proofs.Common.{rules}
 use Rattle.strict.proofs.search.wide_seq.Statement.{statement}
 use Rattle.strict.proofs.search.wide_seq.Tie as tie
 
-calm-seqs-requires : tie.Need-calm-seqs-requires
-calm-seqs-requires c κs = search rules
+calm_seqs_requires : tie.Need-calm-seqs-requires
+calm_seqs_requires c κs = search rules
 
 returns : tie.Need-returns
 returns c = c.before.calm-seqs.ensures c.if1.true
 
-first-wide-seq-requires : tie.Need-first-wide-seq-requires
-first-wide-seq-requires c κs = search rules
+first_wide_seq_requires : tie.Need-first-wide-seq-requires
+first_wide_seq_requires c κs = search rules
 
-returns-2 : tie.Need-returns-2
-returns-2 c = search rules
+returns_2 : tie.Need-returns-2
+returns_2 c = search rules
 
-pub wide-seq-spec : {M : Type 1} → statement M
-wide-seq-spec = tie.close (tie.spec calm-seqs-requires returns first-wide-seq-requires returns-2)
+pub wide_seq_spec : {M : Type 1} → statement M
+wide_seq_spec = tie.close (tie.spec calm_seqs_requires returns first_wide_seq_requires returns_2)

@@ -22,22 +22,22 @@ below_at c = rw (to_z-of_z c.before.before.before.ranges.n) at c.if1.true
 above_at : (c : tie.Else1) → lt_z c.before.before.before.args.n (pos 0) ≡ false
 above_at c = rw (to_z-of_z c.before.before.before.ranges.n) at c.if1.false
 
-as-unsigned-requires : tie.Need-as-unsigned-requires
-as-unsigned-requires c κs = search rules
+as_unsigned_requires : tie.Need-as-unsigned-requires
+as_unsigned_requires c κs = search rules
 
-put-byte-requires : tie.Need-put-byte-requires
-put-byte-requires c κs = search rules
+put_byte_requires : tie.Need-put-byte-requires
+put_byte_requires c κs = search rules
 
-add-put-decimal : tie.Need-overflow-add-put-decimal
-add-put-decimal c =
+add_put_decimal : tie.Need-overflow-add-put-decimal
+add_put_decimal c =
     let th = c.before.before.before.before.before in
     let st = th.before.before.before in
     let u = upper st.args.n st.ranges.n (below_at th) in
     let b = bits_at th.before in
     record { fits = omega (arith, u, b) }
 
-put-decimal-requires : tie.Need-put-decimal-requires
-put-decimal-requires c κs = search rules
+put_decimal_requires : tie.Need-put-decimal-requires
+put_decimal_requires c κs = search rules
 
 same_length : tie.Need-same-length
 same_length c = search rules
@@ -50,28 +50,28 @@ returns c =
     let st = th.before.before.before in
     rw (negative st.args.n st.ranges.n (below_at th)) (rw (← (bits_at th.before)) (then pb.put_byte.ensures pd.put-decimal.ensures))
 
-put-decimal-requires-2 : tie.Need-put-decimal-requires-2
-put-decimal-requires-2 c κs = search rules
+put_decimal_requires_2 : tie.Need-put-decimal-requires-2
+put_decimal_requires_2 c κs = search rules
 
-same-length-2 : tie.Need-same-length-2
-same-length-2 c = search rules
+same-length_2 : tie.Need-same-length-2
+same-length_2 c = search rules
 
-returns-2 : tie.Need-returns-2
-returns-2 c =
+returns_2 : tie.Need-returns-2
+returns_2 c =
     let pd = c.before.before in
     let el = pd.before.before in
     rw (positive el.before.before.before.args.n (above_at el)) (rw (← (bits_at el.before)) pd.put-decimal2.ensures)
 
-pub put-signed-spec : {M : Type 1} → statement M
-put-signed-spec =
+pub put_signed_spec : {M : Type 1} → statement M
+put_signed_spec =
     tie.close
     (tie.spec
-    as-unsigned-requires
-    put-byte-requires
-    add-put-decimal
-    put-decimal-requires
+    as_unsigned_requires
+    put_byte_requires
+    add_put_decimal
+    put_decimal_requires
     same_length
     returns
-    put-decimal-requires-2
-    same-length-2
-    returns-2)
+    put_decimal_requires_2
+    same-length_2
+    returns_2)

@@ -13,17 +13,17 @@ sub-after-recorded c = search rules
 returns : tie.Need-returns
 returns c = rw (lt-ltb most (sum_of c.before.before.before.args.totals) (omega (arith, c.if1.true)))
 
-returns-2 : tie.Need-returns-2
-returns-2 c =
+returns_2 : tie.Need-returns-2
+returns_2 c =
     let back = c.before.before.before in
     rw (lt-ltb most (sum_of back.before.before.before.args.totals) (omega (arith, back.if1.false, c.if2.true)))
 
-returns-3 : tie.Need-returns-3
-returns-3 c =
+returns_3 : tie.Need-returns-3
+returns_3 c =
     let soon = c.before.before in
     let back = soon.before.before.before in
     let n = back.before.before.before.args.totals in
     same_test (most - n.recorded - n.went_back - n.too_soon) n.refused most (sum_of n) (λ h. omega (arith, h, back.if1.false, soon.if2.false)) (λ h. omega (arith, h, back.if1.false, soon.if2.false))
 
-pub too-many-spec : {M : Type 1} → statement M
-too-many-spec = tie.close (tie.spec sub-after-recorded returns returns-2 returns-3)
+pub too_many_spec : {M : Type 1} → statement M
+too_many_spec = tie.close (tie.spec sub-after-recorded returns returns_2 returns_3)

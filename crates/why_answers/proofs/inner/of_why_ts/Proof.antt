@@ -5,35 +5,35 @@ use borrow.Author.Rules.{rules}
 use Rattle.why_answers.proofs.inner.of_why_ts.Statement.{statement}
 use Rattle.why_answers.proofs.inner.of_why_ts.Tie as tie
 
-enum-known-why : tie.Need-enum-known-why
-enum-known-why c = search rules
+enum_known_why : tie.Need-enum-known-why
+enum_known_why c = search rules
 
-as-unsigned-requires : tie.Need-as-unsigned-requires
-as-unsigned-requires c κs = search rules
+as_unsigned_requires : tie.Need-as-unsigned-requires
+as_unsigned_requires c κs = search rules
 
-answer-requires : tie.Need-answer-requires
-answer-requires c κs = search rules
+answer_requires : tie.Need-answer-requires
+answer_requires c κs = search rules
 
-by-reason-requires : tie.Need-by-reason-requires
-by-reason-requires c κs = search rules
+by-reason_requires : tie.Need-by-reason-requires
+by-reason_requires c κs = search rules
 
-enum-known-why-2 : tie.Need-enum-known-why-2
-enum-known-why-2 c = search rules
+enum_known_why_2 : tie.Need-enum-known-why-2
+enum_known_why_2 c = search rules
 
-answer-requires-2 : tie.Need-answer-requires-2
-answer-requires-2 c κs = search rules
+answer_requires_2 : tie.Need-answer-requires-2
+answer_requires_2 c κs = search rules
 
-by-reason-requires-2 : tie.Need-by-reason-requires-2
-by-reason-requires-2 c κs = search rules
+by-reason_requires_2 : tie.Need-by-reason-requires-2
+by-reason_requires_2 c κs = search rules
 
-enum-known-why-3 : tie.Need-enum-known-why-3
-enum-known-why-3 c = search rules
+enum_known_why_3 : tie.Need-enum-known-why-3
+enum_known_why_3 c = search rules
 
-of-table-requires : tie.Need-of-table-requires
-of-table-requires c κs = search rules
+of-table_requires : tie.Need-of-table-requires
+of-table_requires c κs = search rules
 
-unexplained-requires : tie.Need-unexplained-requires
-unexplained-requires c κs = search rules
+unexplained_requires : tie.Need-unexplained-requires
+unexplained_requires c κs = search rules
 
 returns : tie.Need-returns
 returns c =
@@ -42,26 +42,26 @@ returns c =
     let f : SFits w64 told.0.1.0.0 = search rules in
     rw (c.by-reason.ensures, c.before.answer.ensures, told.1, made.as-unsigned.ensures, to_z-of_z f)
 
-returns-2 : tie.Need-returns-2
-returns-2 c = rw (c.by-reason2.ensures, c.before.answer2.ensures, c.before.before.before.why2.given.1)
+returns_2 : tie.Need-returns-2
+returns_2 c = rw (c.by-reason2.ensures, c.before.answer2.ensures, c.before.before.before.why2.given.1)
 
-returns-3 : tie.Need-returns-3
-returns-3 c = rw (c.unexplained.ensures, c.before.of-table.ensures, c.before.before.before.why3.given.1)
+returns_3 : tie.Need-returns-3
+returns_3 c = rw (c.unexplained.ensures, c.before.of-table.ensures, c.before.before.before.why3.given.1)
 
-pub of-why-ts-spec : {M : Type 1} → statement M
-of-why-ts-spec =
+pub of_why_ts_spec : {M : Type 1} → statement M
+of_why_ts_spec =
     tie.close
     (tie.spec
-    enum-known-why
-    as-unsigned-requires
-    answer-requires
-    by-reason-requires
-    enum-known-why-2
-    answer-requires-2
-    by-reason-requires-2
-    enum-known-why-3
-    of-table-requires
-    unexplained-requires
+    enum_known_why
+    as_unsigned_requires
+    answer_requires
+    by-reason_requires
+    enum_known_why_2
+    answer_requires_2
+    by-reason_requires_2
+    enum_known_why_3
+    of-table_requires
+    unexplained_requires
     returns
-    returns-2
-    returns-3)
+    returns_2
+    returns_3)

@@ -4,17 +4,17 @@ use Rattle.text.proofs.Putting.{then, next}
 use Rattle.why_text.proofs.lines.put_exact.Statement.{statement}
 use Rattle.why_text.proofs.lines.put_exact.Tie as tie
 
-slice-aggregate-put-bytes : tie.Need-slice-aggregate-put-bytes
-slice-aggregate-put-bytes c = search rules
+slice_aggregate_put_bytes : tie.Need-slice-aggregate-put-bytes
+slice_aggregate_put_bytes c = search rules
 
-put-bytes-requires : tie.Need-put-bytes-requires
-put-bytes-requires c κs = search rules
+put_bytes_requires : tie.Need-put-bytes-requires
+put_bytes_requires c κs = search rules
 
-put-decimal-requires : tie.Need-put-decimal-requires
-put-decimal-requires c κs =
+put_decimal_requires : tie.Need-put-decimal-requires
+put_decimal_requires c κs =
     let x1 = c.before.before.before in
     let st = x1.before.before.before.before in
-    let r1 = next 6 122 x1.put-bytes.ensures (omega arith) st.requires in
+    let r1 = next 6 122 x1.put_bytes.ensures (omega arith) st.requires in
     omega (arith, r1)
 
 same_length : tie.Need-same-length
@@ -24,14 +24,14 @@ returns : tie.Need-returns
 returns c =
     let x2 = c.before.before in
     let x1 = x2.before.before.before.before in
-    then x1.put-bytes.ensures x2.put-decimal.ensures
+    then x1.put_bytes.ensures x2.put-decimal.ensures
 
-pub put-exact-spec : {M : Type 1} → statement M
-put-exact-spec =
+pub put_exact_spec : {M : Type 1} → statement M
+put_exact_spec =
     tie.close
     (tie.spec
-    slice-aggregate-put-bytes
-    put-bytes-requires
-    put-decimal-requires
+    slice_aggregate_put_bytes
+    put_bytes_requires
+    put_decimal_requires
     same_length
     returns)

@@ -6,14 +6,14 @@ use Rattle.why_text.proofs.Lengths.{reason-length}
 use Rattle.why_text.proofs.lines.put_none.Statement.{statement}
 use Rattle.why_text.proofs.lines.put_none.Tie as tie
 
-put-reason-requires : tie.Need-put-reason-requires
-put-reason-requires c κs = search rules
+put_reason_requires : tie.Need-put-reason-requires
+put_reason_requires c κs = search rules
 
-slice-aggregate-put-bytes : tie.Need-slice-aggregate-put-bytes
-slice-aggregate-put-bytes c = search rules
+slice_aggregate_put_bytes : tie.Need-slice-aggregate-put-bytes
+slice_aggregate_put_bytes c = search rules
 
-put-bytes-requires : tie.Need-put-bytes-requires
-put-bytes-requires c κs =
+put_bytes_requires : tie.Need-put-bytes-requires
+put_bytes_requires c κs =
     let x1 = c.before.before.before.before in
     let st = x1.before.before.before in
     let r1 = next 64 64 x1.put-reason.ensures (reason-length st.args.reason) st.requires in
@@ -27,9 +27,9 @@ returns c =
     let x2 = c.before.before in
     let x1 = x2.before.before.before.before.before in
     let st = x1.before.before.before in
-    rw (append_assoc, append_assoc) (then x1.put-reason.ensures x2.put-bytes.ensures)
+    rw (append_assoc, append_assoc) (then x1.put-reason.ensures x2.put_bytes.ensures)
 
-pub put-none-spec : {M : Type 1} → statement M
-put-none-spec =
+pub put_none_spec : {M : Type 1} → statement M
+put_none_spec =
     tie.close
-    (tie.spec put-reason-requires slice-aggregate-put-bytes put-bytes-requires same_length returns)
+    (tie.spec put_reason_requires slice_aggregate_put_bytes put_bytes_requires same_length returns)

@@ -7,18 +7,18 @@ use Rattle.why_text.proofs.Lengths.{reason-length}
 use Rattle.why_text.proofs.lines.put_second.Statement.{statement}
 use Rattle.why_text.proofs.lines.put_second.Tie as tie
 
-put-reason-requires : tie.Need-put-reason-requires
-put-reason-requires c κs = search rules
+put_reason_requires : tie.Need-put-reason-requires
+put_reason_requires c κs = search rules
 
-put-byte-requires : tie.Need-put-byte-requires
-put-byte-requires c κs =
+put_byte_requires : tie.Need-put-byte-requires
+put_byte_requires c κs =
     let x1 = c.before.before.before in
     let st = x1.before.before.before in
     let r1 = next 64 64 x1.put-reason.ensures (reason-length st.args.reason) st.requires in
     omega (arith, r1)
 
-put-signed-requires : tie.Need-put-signed-requires
-put-signed-requires c κs =
+put_signed_requires : tie.Need-put-signed-requires
+put_signed_requires c κs =
     let x2 = c.before.before.before in
     let x1 = x2.before.before.before.before in
     let st = x1.before.before.before in
@@ -26,8 +26,8 @@ put-signed-requires c κs =
     let r2 = next 1 63 x2.put_byte.ensures (omega arith) r1 in
     omega (arith, r2)
 
-put-byte-requires-2 : tie.Need-put-byte-requires-2
-put-byte-requires-2 c κs =
+put_byte_requires_2 : tie.Need-put-byte-requires-2
+put_byte_requires_2 c κs =
     let x3 = c.before.before.before in
     let x2 = x3.before.before.before.before in
     let x1 = x2.before.before.before.before in
@@ -49,13 +49,13 @@ returns c =
     let st = x1.before.before.before in
     then (then (then x1.put-reason.ensures x2.put_byte.ensures) (rw (to_z-of_z st.ranges.s) at x3.put-signed.ensures)) x4.put-byte2.ensures
 
-pub put-second-spec : {M : Type 1} → statement M
-put-second-spec =
+pub put_second_spec : {M : Type 1} → statement M
+put_second_spec =
     tie.close
     (tie.spec
-    put-reason-requires
-    put-byte-requires
-    put-signed-requires
-    put-byte-requires-2
+    put_reason_requires
+    put_byte_requires
+    put_signed_requires
+    put_byte_requires_2
     same_length
     returns)

@@ -6,18 +6,18 @@ use Rattle.why_text.proofs.Lengths.{reason-length}
 use Rattle.why_text.proofs.lines.put_seq.Statement.{statement}
 use Rattle.why_text.proofs.lines.put_seq.Tie as tie
 
-put-reason-requires : tie.Need-put-reason-requires
-put-reason-requires c κs = search rules
+put_reason_requires : tie.Need-put-reason-requires
+put_reason_requires c κs = search rules
 
-put-byte-requires : tie.Need-put-byte-requires
-put-byte-requires c κs =
+put_byte_requires : tie.Need-put-byte-requires
+put_byte_requires c κs =
     let x1 = c.before.before.before in
     let st = x1.before.before.before in
     let r1 = next 64 64 x1.put-reason.ensures (reason-length st.args.reason) st.requires in
     omega (arith, r1)
 
-put-decimal-requires : tie.Need-put-decimal-requires
-put-decimal-requires c κs =
+put_decimal_requires : tie.Need-put-decimal-requires
+put_decimal_requires c κs =
     let x2 = c.before.before.before in
     let x1 = x2.before.before.before.before in
     let st = x1.before.before.before in
@@ -25,8 +25,8 @@ put-decimal-requires c κs =
     let r2 = next 1 63 x2.put_byte.ensures (omega arith) r1 in
     omega (arith, r2)
 
-put-byte-requires-2 : tie.Need-put-byte-requires-2
-put-byte-requires-2 c κs =
+put_byte_requires_2 : tie.Need-put-byte-requires-2
+put_byte_requires_2 c κs =
     let x3 = c.before.before.before in
     let x2 = x3.before.before.before.before in
     let x1 = x2.before.before.before.before in
@@ -48,13 +48,13 @@ returns c =
     let st = x1.before.before.before in
     then (then (then x1.put-reason.ensures x2.put_byte.ensures) x3.put-decimal.ensures) x4.put-byte2.ensures
 
-pub put-seq-spec : {M : Type 1} → statement M
-put-seq-spec =
+pub put_seq_spec : {M : Type 1} → statement M
+put_seq_spec =
     tie.close
     (tie.spec
-    put-reason-requires
-    put-byte-requires
-    put-decimal-requires
-    put-byte-requires-2
+    put_reason_requires
+    put_byte_requires
+    put_decimal_requires
+    put_byte_requires_2
     same_length
     returns)

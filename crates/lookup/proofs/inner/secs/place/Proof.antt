@@ -12,28 +12,28 @@ whole c = search rules
 enum_told : tie.Need-enum-told
 enum_told c = search rules
 
-first-not-below-requires : tie.Need-first-not-below-requires
-first-not-below-requires c κs = search rules
+first_not_below_requires : tie.Need-first-not-below-requires
+first_not_below_requires c κs = search rules
 
-enum-told-2 : tie.Need-enum-told-2
-enum-told-2 c = search rules
+enum_told_2 : tie.Need-enum-told-2
+enum_told_2 c = search rules
 
-last-not-above-requires : tie.Need-last-not-above-requires
-last-not-above-requires c κs = search rules
+last_not_above_requires : tie.Need-last-not-above-requires
+last_not_above_requires c κs = search rules
 
 returns : tie.Need-returns
 returns c = rw c.before.enum_told.given.1 (rw (whole c.before.before.before) at c.first-not-below.ensures)
 
-returns-2 : tie.Need-returns-2
-returns-2 c = rw c.before.enum-told2.given.1 (rw (whole c.before.before.before) at c.last-not-above.ensures)
+returns_2 : tie.Need-returns-2
+returns_2 c = rw c.before.enum-told2.given.1 (rw (whole c.before.before.before) at c.last-not-above.ensures)
 
-pub place-spec : {M : Type 1} → statement M
-place-spec =
+pub place_spec : {M : Type 1} → statement M
+place_spec =
     tie.close
     (tie.spec
     enum_told
-    first-not-below-requires
-    enum-told-2
-    last-not-above-requires
+    first_not_below_requires
+    enum_told_2
+    last_not_above_requires
     returns
-    returns-2)
+    returns_2)

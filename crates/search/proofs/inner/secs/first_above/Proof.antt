@@ -11,7 +11,7 @@ use mir.Val.{to_z, of_z}
 use Rattle.order.proofs.First.{first-none}
 use Rattle.order.proofs.Order.{round}
 use Rattle.search.specs.Keys.{greater}
-use Rattle.search.proofs.Above.{by_next, int-next, next_fits, inside-most}
+use Rattle.search.proofs.Above.{by_next, int_next, next_fits, inside-most}
 use Rattle.search.proofs.inner.secs.first_above.Statement.{statement}
 use Rattle.search.proofs.inner.secs.first_above.Tie as tie
 
@@ -30,17 +30,17 @@ returns c =
 next : (c : tie.Else1) → mag (c.before.args.x +ℤ pos 1) < 2 ^ 63
 next c = next_fits c.before.args.x c.before.ranges.x.sfits (λ e. c.if1.false (ap (of_z w64) e))
 
-add-first-not-below : tie.Need-overflow-add-first-not-below
-add-first-not-below c = rw (whole c.before) (sfits_of (next c))
+add-first_not_below : tie.Need-overflow-add-first-not-below
+add-first_not_below c = rw (whole c.before) (sfits_of (next c))
 
-first-not-below-requires : tie.Need-first-not-below-requires
-first-not-below-requires c κs = search rules
+first_not_below_requires : tie.Need-first-not-below-requires
+first_not_below_requires c κs = search rules
 
-returns-2 : tie.Need-returns-2
-returns-2 c =
+returns_2 : tie.Need-returns-2
+returns_2 c =
     let s = c.before.before in
     let a = s.args in
-    (rw (whole s, round (a.x +ℤ pos 1) (next c.before)) at c.first-not-below.ensures) ∙ by_next lt_z (pos 0) a.secs.now a.n a.x (a.x +ℤ pos 1) (int-next a.x)
+    (rw (whole s, round (a.x +ℤ pos 1) (next c.before)) at c.first-not-below.ensures) ∙ by_next lt_z (pos 0) a.secs.now a.n a.x (a.x +ℤ pos 1) (int_next a.x)
 
-pub first-above-spec : {M : Type 1} → statement M
-first-above-spec = tie.close (tie.spec returns add-first-not-below first-not-below-requires returns-2)
+pub first_above_spec : {M : Type 1} → statement M
+first_above_spec = tie.close (tie.spec returns add-first_not_below first_not_below_requires returns_2)
