@@ -6,7 +6,7 @@ use mathlib.Core.List.{List, map}
 use Prim.Native.Nat.{ℕ, ◌+◌, ◌-◌, ◌*◌, ◌/◌, ◌^◌, ◌≤◌, ◌<◌}
 use native.Mathlib.Nat.{one-le-pow, mul_assoc}
 use native.Mathlib.Omega.{arith}
-use borrow.Author.Tests.{not_true}
+use borrow.Author.Tests.{not-true}
 use lib.ListN.{length, get_or, get_or-map}
 use lib.Pow.{pow-add}
 use Rattle.order.specs.First.{first, final}
@@ -176,10 +176,10 @@ module _ {K : Type 0} (lt : K → K → Bool) (O : Order lt) (key : TrackedSeq �
 
     module _ (sorted : InOrder lt key rec) where
       climbs : (a b : ℕ) → a ≤ b → b < length rec → reaches RoundUp rec x a ≡ true → reaches RoundUp rec x b ≡ true
-      climbs a b h l t = rw (other (lt (key (pair_at rec b)) x) (λ s. true_false (lt (key (pair_at rec a)) x) (O.le_lt (key (pair_at rec a)) (key (pair_at rec b)) x (sorted a b h l) s) (not_true (lt (key (pair_at rec a)) x) t)))
+      climbs a b h l t = rw (other (lt (key (pair_at rec b)) x) (λ s. true_false (lt (key (pair_at rec a)) x) (O.le_lt (key (pair_at rec a)) (key (pair_at rec b)) x (sorted a b h l) s) (not-true (lt (key (pair_at rec a)) x) t)))
 
       falls : (a b : ℕ) → a ≤ b → b < length rec → reaches RoundDown rec x b ≡ true → reaches RoundDown rec x a ≡ true
-      falls a b h l t = rw (other (lt x (key (pair_at rec a))) (λ s. true_false (lt x (key (pair_at rec b))) (O.lt_le x (key (pair_at rec a)) (key (pair_at rec b)) s (sorted a b h l)) (not_true (lt x (key (pair_at rec b))) t)))
+      falls a b h l t = rw (other (lt x (key (pair_at rec a))) (λ s. true_false (lt x (key (pair_at rec b))) (O.lt_le x (key (pair_at rec a)) (key (pair_at rec b)) s (sorted a b h l)) (not-true (lt x (key (pair_at rec b))) t)))
 
       pub alike : (opt : FindOption) → (named lt (key no_record) key opt kept x ≡ length kept) ↔ (named lt (key no_record) key opt rec x ≡ length rec)
       alike RoundUp = rw (kept-up, named-up rec x) (first_alike P (reaches RoundUp rec x) climbs)
@@ -207,11 +207,11 @@ module _ {K : Type 0} (lt : K → K → Bool) (O : Order lt) (key : TrackedSeq �
           let hit : t y ≡ true = rw (e, itself lt O x) in
           let m = first t (length rec) in
           let b : m ≤ y = first_least t (length rec) y l hit in
-          rw (named-up rec x) (omega arith, same (key (pair_at rec m)) x (not_true (lt (key (pair_at rec m)) x) (first_holds t (length rec) (omega arith))) (rw e at (sorted m y b l)))
+          rw (named-up rec x) (omega arith, same (key (pair_at rec m)) x (not-true (lt (key (pair_at rec m)) x) (first_holds t (length rec) (omega arith))) (rw e at (sorted m y b l)))
       found same RoundDown y l e =
           let t = reaches RoundDown rec x in
           let hit : t y ≡ true = rw (e, itself lt O x) in
           let m = final t (length rec) in
           let b : y ≤ m = final-most t (length rec) y l hit in
           let c : m < length rec = ⊎_elim (λ (s : m < length rec). s) (λ (s : length rec ≤ m). absurd (true_false (t y) hit (final-out t (length rec) s y l))) (below_or m (length rec)) in
-          rw (named-down rec x) (c, same (key (pair_at rec m)) x (rw e at (sorted y m b c)) (not_true (lt x (key (pair_at rec m))) (final_holds t (length rec) c)))
+          rw (named-down rec x) (c, same (key (pair_at rec m)) x (rw e at (sorted y m b c)) (not-true (lt x (key (pair_at rec m))) (final_holds t (length rec) c)))

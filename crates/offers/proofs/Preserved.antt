@@ -6,7 +6,7 @@ use mathlib.Core.List.{List, [], ◌∷◌}
 use Prim.Native.Nat.{ℕ, ◌-◌, ◌≤◌, ◌<◌}
 use native.Mathlib.Nat.{eq-or-lt_of_le, le_refl}
 use native.Mathlib.Omega.{arith}
-use borrow.Author.Tests.{lt-ltb, le-ltb, ne_eqb, eqb-true, not_false}
+use borrow.Author.Tests.{lt-ltb, le-ltb, ne_eqb, eqb-true, not-false}
 use lib.Dec.{eqb, ltb}
 use lib.IntN.{ℤ, pos}
 use lib.ListN.{length, get_or}
@@ -50,7 +50,7 @@ count_fits cap n m c h p =
 
 -- the last kept second is not above the one offered
 pub after_last : (last : LastRecorded) (secs : List ℤ) (n : ℕ) (s : ℤ) → last_misplaced last n ≡ false → last_below last secs n ≡ false → goes_back last s ≡ false → 0 < n → lt_z s (get_or secs (n - 1) (pos 0)) ≡ false
-after_last Never secs n s m b t p = absurd (omega (arith, eqb-true n 0 (not_false (eqb n 0) m)))
+after_last Never secs n s m b t p = absurd (omega (arith, eqb-true n 0 (not-false (eqb n 0) m)))
 after_last (At l) secs n s m b t p = further lt_z int_order (get_or secs (n - 1) (pos 0)) l.0 s b t
 
 -- the last kept sequence is not above the one offered

@@ -4,7 +4,7 @@ use native.Mathlib.Omega.{arith}
 use mathlib.Core.Path.{◌≡◌, refl, ◌∙◌}
 use mathlib.Core.Bool.{false, not}
 use mathlib.Core.List.{List}
-use borrow.Author.Tests.{eqb-true, not_false}
+use borrow.Author.Tests.{eqb-true, not-false}
 use lib.Dec.{eqb}
 use lib.IntN.{ℤ}
 use lib.ListN.{length, length-set, get_or, set}
@@ -64,7 +64,7 @@ seq_make mark x = record { found = mark; seq = record { 0 = x } }
 pub as_long : (keys answers found : ℕ) → differ keys answers found ≡ false → (keys ≡ answers) × (keys ≡ found)
 as_long keys answers found h =
     let both = neither (not (eqb keys answers)) (not (eqb keys found)) h in
-    (eqb-true _ _ (not_false (eqb keys answers) both.0), eqb-true _ _ (not_false (eqb keys found) both.1))
+    (eqb-true _ _ (not-false (eqb keys answers) both.0), eqb-true _ _ (not-false (eqb keys found) both.1))
 
 -- a mark is 0 or 1
 pub ts_mark : (r : TsAnswer) (p : Partner Second) → r ≡ ts_stands p → r.found ≤ 1

@@ -1,7 +1,7 @@
 use mathlib.Core.Path.{sym, ◌∙◌}
 use borrow.Author.Rules.{rules}
 use native.Mathlib.Nat.{le_refl}
-use borrow.Author.Tests.{not_true}
+use borrow.Author.Tests.{not-true}
 use Rattle.order.proofs.First.{first-none}
 use Rattle.order.proofs.Fours.{between}
 use Rattle.order.proofs.inner.sec_outside.Statement.{statement}
@@ -22,7 +22,7 @@ returns c =
     let o1 = o2.before.before in
     let t1 = o1.before in
     let st = t1.before in
-    sym (first-none _ _ st.args.n (le_refl st.args.n) (between st.args.secs.now st.args.n st.requires.1 (sym o1.sec-outside-at.ensures ∙ not_true o1.sec-outside-at.result o2.before.if2.true) (sym o2.sec-outside-at2.ensures ∙ not_true o2.sec-outside-at2.result c.if3.true)))
+    sym (first-none _ _ st.args.n (le_refl st.args.n) (between st.args.secs.now st.args.n st.requires.1 (sym o1.sec-outside-at.ensures ∙ not-true o1.sec-outside-at.result o2.before.if2.true) (sym o2.sec-outside-at2.ensures ∙ not-true o2.sec-outside-at2.result c.if3.true)))
 
 first-outside_requires : tie.Need-first-outside-requires
 first-outside_requires c κs = search rules

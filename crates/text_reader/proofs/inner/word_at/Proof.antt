@@ -1,4 +1,4 @@
-use borrow.Author.Tests.{not_true, not_false}
+use borrow.Author.Tests.{not-true, not-false}
 use Prim.Native.Nat.{◌-◌}
 use native.Mathlib.Omega.{arith}
 use lib.ListN.{length}
@@ -26,7 +26,7 @@ is_at_requires : tie.Need-is-at-requires invariant_loop decreases_loop
 is_at_requires c κs = search rules
 
 returns : tie.Need-returns invariant_loop decreases_loop
-returns c = let a = c.before in let t = a.before.before in matched_missing _ _ _ _ t.before.loop.invariant t.loop-test.true _ a.is_at.ensures (not_true _ c.if1.true)
+returns c = let a = c.before in let t = a.before.before in matched_missing _ _ _ _ t.before.loop.invariant t.loop-test.true _ a.is_at.ensures (not-true _ c.if1.true)
 
 add_i : tie.Need-overflow-add-i invariant_loop decreases_loop
 add_i c = search rules
@@ -35,7 +35,7 @@ loop_less : tie.Need-loop-smaller invariant_loop decreases_loop
 loop_less c = search rules
 
 loop_again : tie.Need-loop-preserved invariant_loop decreases_loop
-loop_again c = let a = c.before in let t = a.before.before in matched_more _ _ _ _ t.before.loop.invariant t.loop-test.true _ a.is_at.ensures (not_false _ c.if1.false)
+loop_again c = let a = c.before in let t = a.before.before in matched_more _ _ _ _ t.before.loop.invariant t.loop-test.true _ a.is_at.ensures (not-false _ c.if1.false)
 
 returns_2 : tie.Need-returns-2 invariant_loop decreases_loop
 returns_2 c = matched_all _ _ _ _ c.before.loop.invariant c.loop-test.false

@@ -1,0 +1,25 @@
+use native.Mathlib.Omega.{arith}
+use Prim.Native.Nat.{ℕ, ◌-◌, ◌<◌}
+use mathlib.Core.Path.{◌≡◌, sym, ◌∙◌}
+use mathlib.Core.Bool.{false}
+use borrow.Author.Count.{below_more, below_none}
+use Rattle.order.proofs.First.{first_hit, first-none}
+use Rattle.order.proofs.inner.first_outside.Goals as goal
+
+pub loop-i-init : goal.loop-i-init
+loop-i-init c = below_none _
+
+pub returns-then-sec_outside_at : goal.returns-then-sec_outside_at
+returns-then-sec_outside_at c = sym (first_hit _ _ _ (omega arith) c.loop-i.invariant (sym c.sec_outside_at.ensures ∙ c.if-sec_outside_at.true))
+
+pub overflow_add-i : goal.overflow_add-i
+overflow_add-i c = omega arith
+
+pub loop-i-smaller : goal.loop-i-smaller
+loop-i-smaller c = omega arith
+
+pub loop-i-preserved : goal.loop-i-preserved
+loop-i-preserved c = below_more _ _ c.loop-i.invariant (sym c.sec_outside_at.ensures ∙ c.if-sec_outside_at.false)
+
+pub returns : goal.returns
+returns c = sym (first-none _ _ _ c.loop-i-test.false c.loop-i.invariant)
