@@ -1,4 +1,4 @@
-use Rattle.std.proofs.Common.{◌≡◌, ap, ◌∙◌, to_z-of_z, rules}
+use Rattle.std.proofs.Common.{◌≡◌, ap, ◌∙◌, to_z-of_z, rules, w64}
 use borrow.Author.Rules.{sfits_of}
 use Rattle.signed.specs.Signed.{signed, pattern, add_w}
 use Rattle.signed.proofs.wrapping_add.Goals as goal
@@ -8,5 +8,5 @@ returns c =
     let u : c.as_unsigned.result ≡ pattern c.args.a = rw (to_z-of_z c.ranges.a) at c.as_unsigned.ensures in
     let v : c.as_unsigned-2.result ≡ pattern c.args.b = rw (to_z-of_z c.ranges.b) at c.as_unsigned-2.ensures in
     let e : c.wrapping_add_u64.result ≡ add_w (pattern c.args.a) (pattern c.args.b) =
-    rw (← u, ← v) c.wrapping_add_u64.ensures in
-    to_z-of_z (sfits_of c.as_signed.type-inv) ∙ c.as_signed.ensures ∙ ap signed e
+    rw (← u, ← v) c.wrapping_add_u64.ensures.value in
+    to_z-of_z {w = w64} (sfits_of c.as_signed.type_inv) ∙ c.as_signed.ensures ∙ ap signed e

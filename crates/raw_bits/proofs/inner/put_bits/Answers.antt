@@ -68,7 +68,7 @@ loop-left-init c =
       le_refl (rest_of c),
       refl,
       refl,
-      byte-set c.args.buf.now c.args.from c.merge-x.result (λ j. omega (arith, c.type_inv.buf j)) y,
+      byte-set c.args.buf.now c.args.from c.merge-x.result (λ j. omega (arith, c.slice_known-2-1.given j)) y,
       put_none _ _ _ _ (omega arith),
       simp length-set z.4,
       z.5,
