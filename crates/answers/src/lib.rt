@@ -1,5 +1,7 @@
 // The answers of the public calls as structs of numbers, for programs in other languages: the refusal's number, and what the
 // call gives or the refusal also tells. Here are the answer and the refusals; `call_answers` and `table_answers` have each call's.
+#![tactic(auto)]
+
 pub mod inner; // inner.rt: what our own crates call
 mod refusals; // refusals.rt: an answer, and a refusal as one
 
@@ -7,7 +9,7 @@ mod refusals; // refusals.rt: an answer, and a refusal as one
 // of docs/RULES.md, "Refusals". Values that are not told are 0; an array is 0 for the sequences and 1 for the seconds. The place
 // that 4 to 8 tell last, a byte of the image and a bit of it, has names of its own; other answers have 0 there.
 #[repr(C)]
-#[derive(Drop)]
+#[derive(Clone, Copy)]
 pub struct Answer {
     pub number: u32,
     pub a: u64,

@@ -12,7 +12,7 @@ use gorilla::inner::follow;
 
 // A value, the delta that led to it, and the codes after it: so many of one zero bit that were found already, and
 // then those at a place.
-#[derive(Drop)]
+#[derive(Clone, Copy)]
 pub struct Cursor {
     pub zeros: usize,
     pub at: Place,

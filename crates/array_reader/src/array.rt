@@ -10,7 +10,7 @@ use bits::{BitsRead, Place};
 use code_reader::Refusal;
 use gorilla::Array;
 
-#[derive(Drop)]
+#[derive(Clone, Copy)]
 pub enum ArrayScan {
     // the count, the first value, the place of the codes, and the byte after the array
     Found(usize, i64, Place, usize),

@@ -1,5 +1,7 @@
 // One array of an image, looked over in any bytes with no value kept. All of it is in `inner`: the public calls that read an
 // image stand in the crate `decoder`.
+#![tactic(auto)]
+
 mod array; // array.rt: an array looked over
 pub mod inner; // inner.rt: what our own crates call
 mod scan; // scan.rt: the codes of an array, looked over

@@ -8,7 +8,7 @@ use code_reader::Refusal;
 use code_reader::inner::{CodeRead, read_code, refusal_of, window_at, zeros};
 use gorilla::Array;
 
-#[derive(Drop)]
+#[derive(Clone, Copy)]
 pub enum Scanned {
     // the place after the codes
     Done(Place),

@@ -3,13 +3,15 @@
 //
 // A call over a struct that holds a reference is proved by a walk of its MIR, so these are few and thin: the work
 // is `read_bits`. Who calls `read_from`, which has plain parameters, needs no walk.
+#![tactic(auto)]
+
 ghost use Rattle.std.specs.Prelude.{◌≡◌};
 ghost use Rattle.bits.specs.Read.{told_read, read_rule};
 ghost use Rattle.bit_reader.specs.Reader.{place_in};
 
 use bits::{BitsRead, Place, read_bits};
 
-#[derive(Drop)]
+#[derive(Clone, Copy)]
 pub struct BitReader<'a> {
     pub buf: &'a [u8],
     pub byte_pos: usize,

@@ -4,6 +4,8 @@
 // bit at a time. Here a read or a write moves up to 64 bits at a place of a lent slice, a byte or more
 // at a time. No public call has a `requires`: a call that cannot be answered is refused by a case of its
 // answer, whose number specs/ lists (docs/RULES.md, "Refusals"), and a refused call changes nothing.
+#![tactic(auto)]
+
 pub mod inner; // inner.rt: the steps, for our own crates: all but `settle` have a `requires`
 mod read; // read.rt: a read of bits
 mod write; // write.rt: a write of bits
@@ -13,14 +15,14 @@ pub use write::write_bits;
 
 // A place: a byte, and a bit of it, 0 the most significant. One past the end of a slice, or with a bit
 // above 7, counts as the slice's end.
-#[derive(Drop)]
+#[derive(Clone, Copy)]
 pub struct Place {
     pub byte: usize,
     pub bit: u8,
 }
 
 // What a read answers.
-#[derive(Drop)]
+#[derive(Clone, Copy)]
 pub enum BitsRead {
     // the bits as a number, and the place after them
     Value(u64, Place),
@@ -31,7 +33,7 @@ pub enum BitsRead {
 }
 
 // What a write answers.
-#[derive(Drop)]
+#[derive(Clone, Copy)]
 pub enum BitsWritten {
     // the place after the bits
     Done(Place),

@@ -7,7 +7,7 @@ ghost use Rattle.calendar.specs.Inner.{part};
 const MONTH_LENGTHS: [u64; 12] = [31, 28, 31, 30, 31, 30, 31, 31, 30, 31, 30, 31];
 
 // A month of a year, and a day of it.
-#[derive(Drop)]
+#[derive(Clone, Copy)]
 pub struct Place {
     pub month: u64,
     pub day: u64,

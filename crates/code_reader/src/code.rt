@@ -5,7 +5,7 @@ use crate::missing::Missing;
 use crate::prefix::{Prefix, leading, used_of};
 use crate::window::Window;
 
-#[derive(Drop)]
+#[derive(Clone, Copy)]
 pub enum CodeRead {
     // the difference of deltas, and the bits that the code has
     Diff(i64, u8),

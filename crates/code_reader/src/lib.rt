@@ -1,5 +1,7 @@
 // One code of an array, read from any bytes, and the refusals of all that reads an image. The public calls that read an
 // image stand in the crate `decoder`.
+#![tactic(auto)]
+
 mod code; // code.rt: one code
 pub mod inner; // inner.rt: what our own crates call
 mod missing; // missing.rt: what of a code is missing
@@ -11,7 +13,7 @@ use gorilla::Array;
 
 // Why bytes are refused: 1 to 10 of docs/RULES.md, "Refusals". The place of 4 to 8 is the one at which the missing item begins:
 // the count, the first value, or the code with its prefix.
-#[derive(Drop)]
+#[derive(Clone, Copy)]
 pub enum Refusal {
     // 1: the input is empty
     Empty,

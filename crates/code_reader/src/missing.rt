@@ -10,7 +10,7 @@ use bits::Place;
 use gorilla::Array;
 
 // Refusals 6 to 8, without array, index and place: small, since the answer to each code has room for one.
-#[derive(Drop)]
+#[derive(Clone, Copy)]
 pub enum Missing {
     // 6: all of it
     Code,

@@ -5,7 +5,7 @@ ghost use Rattle.code_reader.specs.Inner.{ReadsPrefix};
 use crate::missing::Missing;
 use crate::window::Window;
 
-#[derive(Drop)]
+#[derive(Clone, Copy)]
 pub enum Prefix {
     // the number of ones
     Ones(usize),

@@ -6,7 +6,7 @@ ghost use Rattle.code_reader.specs.Inner.{Holds, Zeros};
 use bits::Place;
 
 // The bits from a place on are the highest of a number; so many of them are there.
-#[derive(Drop)]
+#[derive(Clone, Copy)]
 pub struct Window {
     pub bits: u64,
     pub have: u8,

@@ -1,4 +1,6 @@
 // The grammar of a date-time, RFC 3339, section 5.6 (docs/RULES.md, "Dates"), for our own crates: no public call stands here.
+#![tactic(auto)]
+
 pub mod inner; // inner.rt: the whole text
 mod places; // places.rt: numbers at a place
 mod steps; // steps.rt: the parts of a date-time
@@ -6,7 +8,7 @@ mod steps; // steps.rt: the parts of a date-time
 use calendar::Date;
 
 // How far the local time is from UTC, and whether it is ahead of it.
-#[derive(Drop)]
+#[derive(Clone, Copy)]
 pub struct Zone {
     pub ahead: bool,
     pub hours: u64,
@@ -14,7 +16,7 @@ pub struct Zone {
 }
 
 // What the text is: the local date and time of day with its zone, whatever their numbers are, or not of the grammar.
-#[derive(Drop)]
+#[derive(Clone, Copy)]
 pub enum StampRead {
     At(Date, Zone),
     NotTheGrammar,

@@ -7,13 +7,13 @@ use crate::places::{group_at, number_at};
 use calendar::Date;
 use text_reader::inner::{digit_at, is_at};
 
-#[derive(Drop)]
+#[derive(Clone, Copy)]
 pub enum HeadRead {
     At(Date),
     Nothing,
 }
 
-#[derive(Drop)]
+#[derive(Clone, Copy)]
 pub enum ZoneRead {
     At(Zone),
     Nothing,

@@ -2,6 +2,8 @@
 //
 // No public call has a `requires`: what cannot be written or read is refused by a case of the answer, whose number specs/ lists
 // (docs/RULES.md, "Refusals").
+#![tactic(auto)]
+
 ghost use Rattle.std.specs.Prelude.{◌≡◌};
 ghost use Rattle.dates.specs.Refusal.{told_read};
 ghost use Rattle.dates.specs.Read.{read_date};
@@ -17,7 +19,7 @@ use limits::inner::out_of_domain;
 use tracker::Second;
 
 // Why a date is not written or read.
-#[derive(Drop)]
+#[derive(Clone, Copy)]
 pub enum Refusal {
     // 25: not the grammar of a date-time
     NotTheGrammar,
@@ -29,14 +31,14 @@ pub enum Refusal {
     Room(usize),
 }
 
-#[derive(Drop)]
+#[derive(Clone, Copy)]
 pub enum DateWritten {
     // the bytes that were written: 20
     Written(usize),
     Refused(Refusal),
 }
 
-#[derive(Drop)]
+#[derive(Clone, Copy)]
 pub enum DateRead {
     At(Second),
     Refused(Refusal),

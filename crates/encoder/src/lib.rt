@@ -4,6 +4,8 @@
 // `array_writer`), and a buffer that may be too short has the image's length counted before a byte is written, so that a refused
 // call leaves it as it was. No public call has a `requires`: what cannot be encoded is refused by a case of the answer,
 // whose number specs/ lists (docs/RULES.md, "Refusals").
+#![tactic(auto)]
+
 mod image; // image.rt: the image
 mod len; // len.rt: the image's length, counted and at most
 
@@ -12,7 +14,7 @@ pub use image::{encode, encode_strict};
 pub use len::encoded_len;
 
 // Why arrays are not encoded.
-#[derive(Drop)]
+#[derive(Clone, Copy)]
 pub enum Refusal {
     // 18: the arrays differ in length
     LengthsDiffer,
@@ -25,14 +27,14 @@ pub enum Refusal {
 }
 
 // What the length answers.
-#[derive(Drop)]
+#[derive(Clone, Copy)]
 pub enum EncodedLen {
     Bytes(usize),
     Refused(Refusal),
 }
 
 // What an encoder answers.
-#[derive(Drop)]
+#[derive(Clone, Copy)]
 pub enum Encoded {
     // the bytes that were written
     Written(usize),

@@ -1,4 +1,6 @@
 // Why a lookup answers as it does: the reason, with the positions that it names, beside the lookup's own answer.
+#![tactic(auto)]
+
 ghost use Rattle.std.specs.Prelude.{◌≡◌};
 ghost use Rattle.explaining.specs.Why.{why_ts, why_seq, told_why_ts, told_why_seq};
 
@@ -8,14 +10,14 @@ use tracker::{Checked, Refusal, Second, Seq, SequenceTracker, check};
 pub mod inner; // inner.rt: the reason in a table that is checked
 
 // A position next to the one that answers, where there is one.
-#[derive(Drop)]
+#[derive(Clone, Copy)]
 pub enum Neighbour {
     At(usize),
     Missing,
 }
 
 // Why a question is answered as it is. A position is one among the kept pairs.
-#[derive(Drop)]
+#[derive(Clone, Copy)]
 pub enum Reason {
     // a key equals the one asked for: the position that answers
     Exact(usize),
@@ -31,14 +33,14 @@ pub enum Reason {
     Empty,
 }
 
-#[derive(Drop)]
+#[derive(Clone, Copy)]
 pub enum WhyTs {
     Answered(Reason, Second),
     Nothing(Reason),
     Refused(Refusal),
 }
 
-#[derive(Drop)]
+#[derive(Clone, Copy)]
 pub enum WhySeq {
     Answered(Reason, Seq),
     Nothing(Reason),

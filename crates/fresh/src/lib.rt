@@ -1,4 +1,6 @@
 // Tables just made: empty ones, at the default settings or at settings that are named.
+#![tactic(auto)]
+
 ghost use Rattle.std.specs.Prelude.{◌≡◌};
 ghost use Rattle.tracker.specs.Refusal.{told_made};
 ghost use Rattle.fresh.specs.Fresh.{new_table, config_of};

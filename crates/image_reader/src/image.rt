@@ -8,7 +8,7 @@ use code_reader::Refusal;
 use gorilla::Array;
 
 // An image that can be filled in: how many pairs, where their values stand, and the byte after it.
-#[derive(Drop)]
+#[derive(Clone, Copy)]
 pub struct Parts {
     pub count: usize,
     pub seq_first: i64,
@@ -18,7 +18,7 @@ pub struct Parts {
     pub end: usize,
 }
 
-#[derive(Drop)]
+#[derive(Clone, Copy)]
 pub enum ImageScan {
     Found(Parts),
     Refused(Refusal),

@@ -1,5 +1,7 @@
 // Standard input, read to its end, for the programs. No contract can say which bytes a read brings, or that one was made. What can be
 // said is said of the buffer and of the count, and by the answer: a program has no `Over` but from here.
+#![tactic(auto)]
+
 ghost use Rattle.input.specs.Input.{ReadInto};
 
 mod once; // once.rt: one read

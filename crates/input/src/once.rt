@@ -4,7 +4,7 @@ ghost use Rattle.std.specs.Prelude.{◌≡◌};
 ghost use Rattle.input.specs.Inner.{ReadingOf, Counted, after_read, Reads};
 
 // Standard input that is being read into a buffer.
-#[derive(Drop)]
+#[derive(Clone, Copy)]
 pub struct Reading {
     // how many bytes of it stand at the start of the buffer
     bytes: usize,
@@ -13,7 +13,7 @@ pub struct Reading {
 }
 
 // Standard input after its last read.
-#[derive(Drop)]
+#[derive(Clone, Copy)]
 pub struct Over {
     bytes: usize,
     room: usize,
@@ -22,7 +22,7 @@ pub struct Over {
 }
 
 // What a read came to.
-#[derive(Drop)]
+#[derive(Clone, Copy)]
 pub enum Read {
     // some bytes more
     More(Reading),

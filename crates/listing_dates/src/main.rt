@@ -1,3 +1,5 @@
+#![tactic(auto)]
+
 fn main() {
     let mut input = [0u8; listing_io::INPUT_ROOM];
     let mut text = [0u8; report::TEXT_ROOM];

@@ -13,7 +13,7 @@ use tallies::Tally;
 use tallies::inner::{counted, total};
 use tracker::{Refusal, SequenceTracker, TrackedSeq};
 
-#[derive(Drop)]
+#[derive(Clone, Copy)]
 pub enum Phase {
     Going,
     Bad(Refusal),
@@ -21,7 +21,7 @@ pub enum Phase {
 }
 
 // How far a log is. `end` is the number of records, and 0 once no more are to be offered, so that a loop up to it ends.
-#[derive(Drop)]
+#[derive(Clone, Copy)]
 pub struct Progress {
     pub table: SequenceTracker,
     pub tally: Tally,

@@ -1,4 +1,6 @@
 // Logs of offers whose records stand in two lists: the lists of a caller, or the pairs that another table keeps.
+#![tactic(auto)]
+
 ghost use Rattle.offers.specs.Whole.{whole, Leaves};
 ghost use Rattle.log.specs.Log.{told_log};
 ghost use Rattle.log.specs.Pairs.{pairs_log_of, extend_of};

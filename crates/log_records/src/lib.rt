@@ -1,4 +1,6 @@
 // A log of offers that arrives as a lent list of records, each a sequence and a second.
+#![tactic(auto)]
+
 ghost use Rattle.offers.specs.Whole.{whole, Leaves};
 ghost use Rattle.log.specs.Log.{told_log, log_of};
 ghost use Rattle.log.specs.Inner.{Begins};

@@ -1,4 +1,6 @@
 // Lookups in a table: the second of a sequence number, and the sequence number of a second.
+#![tactic(auto)]
+
 ghost use Rattle.std.specs.Prelude.{◌≡◌};
 ghost use Rattle.lookup.specs.Find.{find_ts, find_seq};
 ghost use Rattle.lookup.specs.Found.{told_ts, told_seq};
@@ -8,20 +10,20 @@ use tracker::{Checked, Refusal, Second, Seq, SequenceTracker, check};
 pub mod inner;
 
 // Which of the kept keys answers: with RoundUp the first that is not below the one asked for, with RoundDown the last that is not above it.
-#[derive(Drop)]
+#[derive(Clone, Copy)]
 pub enum FindOption {
     RoundUp,
     RoundDown,
 }
 
-#[derive(Drop)]
+#[derive(Clone, Copy)]
 pub enum FoundTs {
     At(Second),
     Nothing,
     Refused(Refusal),
 }
 
-#[derive(Drop)]
+#[derive(Clone, Copy)]
 pub enum FoundSeq {
     At(Seq),
     Nothing,

@@ -15,7 +15,7 @@ use tracker::{Refusal, Second, Seq, SequenceTracker};
 
 // What came of an offer: recorded, so that so many pairs stand; skipped; refused for its pair, with 16 or 17; or not counted, as the
 // totals are full. It is small: a list asks for one for each record, and a state in it would be copied each time.
-#[derive(Drop)]
+#[derive(Clone, Copy)]
 pub enum Came {
     Recorded(usize),
     WentBack,

@@ -1,5 +1,7 @@
 // One offer to a table: a pair is recorded, skipped, with the reason, or refused; and, unless the table is bad or its totals are full, the
 // offer is counted.
+#![tactic(auto)]
+
 ghost use Rattle.offers.specs.Whole.{whole, Leaves};
 ghost use Rattle.offers.specs.Offer.{told_offer, offering};
 
@@ -10,7 +12,7 @@ mod steps;
 
 // Where the offer is counted, the state after it: a pair that is skipped, or refused for itself (16, 17), changes nothing of it but a
 // total. `Refused` is for the rest: the table is bad, or its totals are full, and nothing is counted.
-#[derive(Drop)]
+#[derive(Clone, Copy)]
 pub enum Offered {
     Recorded(SequenceTracker),
     WentBack(SequenceTracker),

@@ -1,3 +1,5 @@
 // The order of a table's sequences and of its seconds, and their domain. For our own crates: no public call stands here.
+#![tactic(auto)]
+
 pub mod inner; // inner.rt: the first place of an array that breaks a rule
 mod steps; // steps.rt: one step, and four at a time

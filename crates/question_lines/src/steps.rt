@@ -7,19 +7,19 @@ use lookup::FindOption;
 use text_reader::inner::{digits_at, word_at};
 use tracker::Second;
 
-#[derive(Drop)]
+#[derive(Clone, Copy)]
 pub enum NumberRead {
     At(u64, usize),
     Nothing,
 }
 
-#[derive(Drop)]
+#[derive(Clone, Copy)]
 pub enum SecondRead {
     At(Second, usize),
     Nothing,
 }
 
-#[derive(Drop)]
+#[derive(Clone, Copy)]
 pub enum Ending {
     At(FindOption, usize),
     Nothing,

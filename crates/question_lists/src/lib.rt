@@ -1,4 +1,6 @@
 // A list of questions in a lent slice, and its answers in two more. The table is checked once.
+#![tactic(auto)]
+
 ghost use Rattle.std.specs.Prelude.{◌≡◌};
 ghost use Rattle.question_lists.specs.Each as rules;
 

@@ -1,5 +1,7 @@
 // The text that the programs `listing` and `listing_dates` print for the bytes that they read: the pairs of an image, or the number by which
 // they are refused.
+#![tactic(auto)]
+
 ghost use Rattle.text.specs.Text.{Stands};
 ghost use Rattle.report.specs.Listing.{listing_of};
 ghost use Rattle.report.specs.Dated.{ListsDates};

@@ -1,4 +1,6 @@
 // A table restored from an image, at the default capacity, and at the default interval or at one that is named: an image has neither.
+#![tactic(auto)]
+
 ghost use Rattle.std.specs.Prelude.{◌≡◌};
 ghost use Rattle.tracker.specs.Refusal.{told_made};
 ghost use Rattle.restoring.specs.Restore.{told_restore, too_short, Restores, RestoresAt};
@@ -7,7 +9,7 @@ use decoder::Decoded;
 use tracker::{Made, Refusal, SequenceTracker};
 
 // What a restore answers.
-#[derive(Drop)]
+#[derive(Clone, Copy)]
 pub enum Restored {
     Table(SequenceTracker),
     // the interval, the lent arrays or the pairs are refused

@@ -2,6 +2,8 @@
 //
 // slatedb's `to_bytes` cuts a difference of deltas to 32 bits in silence. `save` writes the same bytes; `save_strict` refuses
 // the tables of which other pairs would be read back.
+#![tactic(auto)]
+
 ghost use Rattle.std.specs.Prelude.{◌≤◌, length};
 ghost use Rattle.saving.specs.Save.{save_of, save_strict_of, Saves};
 ghost use Rattle.saving.specs.Inner.{EncodesFirst};
@@ -10,7 +12,7 @@ use encoder::Encoded;
 use tracker::{Checked, Refusal, SequenceTracker, check};
 
 // What a save answers.
-#[derive(Drop)]
+#[derive(Clone, Copy)]
 pub enum Saved {
     // the bytes that were written
     Written(usize),

@@ -1,4 +1,6 @@
 // One sheet, up to sixteen questions: a record by value with the questions and their answers. The table is checked once.
+#![tactic(auto)]
+
 ghost use Rattle.sheets.specs.Sheet.{FindsTs16, FindsSeq16};
 
 use lookup::FindOption;
@@ -14,7 +16,7 @@ const PLACES: usize = 16;
 
 // Questions by sequence. Of the sixteen places the first `used` are questions; the answers of the others are nobody's.
 #[repr(C)]
-#[derive(Drop)]
+#[derive(Clone, Copy)]
 pub struct TsSheet {
     pub keys: [Seq; 16],
     pub answers: [TsAnswer; 16],
@@ -23,7 +25,7 @@ pub struct TsSheet {
 
 // Questions by second.
 #[repr(C)]
-#[derive(Drop)]
+#[derive(Clone, Copy)]
 pub struct SeqSheet {
     pub keys: [Second; 16],
     pub answers: [SeqAnswer; 16],
@@ -31,13 +33,13 @@ pub struct SeqSheet {
 }
 
 // A sheet as it comes back: with its answers, or, refused, as it went in.
-#[derive(Drop)]
+#[derive(Clone, Copy)]
 pub struct TsSheetBack {
     pub asked: Asked,
     pub sheet: TsSheet,
 }
 
-#[derive(Drop)]
+#[derive(Clone, Copy)]
 pub struct SeqSheetBack {
     pub asked: Asked,
     pub sheet: SeqSheet,

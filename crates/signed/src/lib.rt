@@ -1,5 +1,7 @@
 // Signed numbers as patterns of bits: two's complement, wrapping sums, sign extension. Rust's `as` between u64 and i64 becomes a
 // helper by cases.
+#![tactic(auto)]
+
 ghost use Rattle.std.specs.Prelude.{◌≡◌};
 ghost use Rattle.signed.specs.Signed.{signed, pattern, sub_s, add_s};
 ghost use Rattle.signed.specs.Extend.{told_extend, extend_rule};
@@ -9,7 +11,7 @@ pub mod inner; // inner.rt: powers of two and low bits; our other crates call `l
 use crate::inner::{low_of, two_to};
 
 // What a sign extension answers.
-#[derive(Drop)]
+#[derive(Clone, Copy)]
 pub enum Extended {
     Value(i64),
     // 23: a width outside 1 to 32

@@ -1,11 +1,13 @@
 // A table's state as a struct of numbers, for programs in other languages, and which way a lookup rounds.
+#![tactic(auto)]
+
 pub mod inner; // inner.rt: what our own crates call
 
 use totals::Totals;
 
 // `has_last` says whether `last` is there: 0 is no, 1 yes, and any other number makes it a state that every call refuses.
 #[repr(C)]
-#[derive(Drop)]
+#[derive(Clone, Copy)]
 pub struct State {
     pub count: usize,
     pub capacity: u32,

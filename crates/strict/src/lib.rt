@@ -1,5 +1,7 @@
 // Strictness: whether 32 bits hold every difference of deltas of two arrays, so that their image reads back as they are.
 // All is in `inner`: the public calls that refuse by 20 stand in the crate `encoder`.
+#![tactic(auto)]
+
 mod calm; // calm.rt: small deltas, told without a search
 pub mod inner; // inner.rt: what our own crates call
 mod search; // search.rt: the first difference that 32 bits do not hold
@@ -7,7 +9,7 @@ mod search; // search.rt: the first difference that 32 bits do not hold
 use gorilla::Array;
 
 // The first difference of deltas that 32 bits do not hold.
-#[derive(Drop)]
+#[derive(Clone, Copy)]
 pub enum FirstWide {
     None,
     At(Array, usize),

@@ -1,5 +1,7 @@
 // The answers of the calls that give a table, as structs of numbers, for programs in other languages. `call_answers` has
 // the others.
+#![tactic(auto)]
+
 mod calls; // calls.rt: each call's answer
 pub mod inner; // inner.rt: what our own crates call
 mod refusals; // refusals.rt: a refusal in a list of offers
@@ -11,7 +13,7 @@ use tallies::Tally;
 
 // What a call answers that gives a state: where it gives none, `state` is one that every call refuses.
 #[repr(C)]
-#[derive(Drop)]
+#[derive(Clone, Copy)]
 pub struct TableAnswer {
     pub answer: Answer,
     pub tally: Tally,

@@ -1,5 +1,7 @@
 // The table of sequence numbers and seconds: its state, and what every call on a table checks. The pairs stand in two arrays
 // that the caller lends; the state says how many of them are kept.
+#![tactic(auto)]
+
 ghost use Rattle.std.specs.Prelude.{◌≡◌};
 ghost use Rattle.tracker.specs.Refusal.{told_check};
 ghost use Rattle.tracker.specs.Table.{check_of};
@@ -11,26 +13,26 @@ mod state;
 
 // A sequence number and a second are different things: one cannot be passed as the other. Both cross to other languages as the number they hold.
 #[repr(C)]
-#[derive(Drop)]
+#[derive(Clone, Copy)]
 pub struct Seq(pub u64);
 
 #[repr(C)]
-#[derive(Drop)]
+#[derive(Clone, Copy)]
 pub struct Second(pub i64);
 
-#[derive(Drop)]
+#[derive(Clone, Copy)]
 pub struct TrackedSeq {
     pub seq: Seq,
     pub ts: Second,
 }
 
-#[derive(Drop)]
+#[derive(Clone, Copy)]
 pub enum LastRecorded {
     Never,
     At(Second),
 }
 
-#[derive(Drop)]
+#[derive(Clone, Copy)]
 pub struct SequenceTracker {
     pub count: usize,
     pub capacity: u32,
@@ -40,7 +42,7 @@ pub struct SequenceTracker {
 }
 
 // Why a call on a table refuses; an index is a position among the kept pairs.
-#[derive(Drop)]
+#[derive(Clone, Copy)]
 pub enum Refusal {
     Disagrees,
     SequenceDrops(usize),
@@ -52,13 +54,13 @@ pub enum Refusal {
     TotalsFull,
 }
 
-#[derive(Drop)]
+#[derive(Clone, Copy)]
 pub enum Checked {
     Good,
     Refused(Refusal),
 }
 
-#[derive(Drop)]
+#[derive(Clone, Copy)]
 pub enum Made {
     Table(SequenceTracker),
     Refused(Refusal),

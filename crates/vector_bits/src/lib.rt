@@ -1,4 +1,6 @@
 // Stored records of bits, replayed: W, B and N. For the program `vectors`.
+#![tactic(auto)]
+
 use bits::{BitsRead, BitsWritten, Place};
 use signed::Extended;
 use std::num::wrapping_add_usize as after;

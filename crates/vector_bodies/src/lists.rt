@@ -11,7 +11,7 @@ pub const MOST: usize = 16384;
 pub const LISTED: usize = 64;
 
 // A rule of FORMAT.md, at its present pair.
-#[derive(Drop)]
+#[derive(Clone, Copy)]
 pub struct Rule {
     pub count: usize,
     pub x: u64,

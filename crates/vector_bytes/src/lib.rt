@@ -1,5 +1,7 @@
 // Numbers and parts of a stored record's body, least significant byte first. Each answers at every place: past the end stand zeros,
 // and a part that is not there is empty. For the program `vectors` and the crates beside it.
+#![tactic(auto)]
+
 ghost use Rattle.std.specs.Prelude.{◌<◌};
 
 use std::num::wrapping_add_usize as after;

@@ -1,4 +1,6 @@
 // Lists of sequences and of seconds, at any place: past the end stands 0, and nothing is stored there. For the program `vectors` and the crates beside it.
+#![tactic(auto)]
+
 ghost use Rattle.std.specs.Prelude.{◌<◌};
 
 use std::num::wrapping_add_usize as after;

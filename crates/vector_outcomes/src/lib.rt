@@ -1,5 +1,7 @@
 // Answers of the reader as compare/FORMAT.md writes them: the number of docs/RULES.md and, 256 times, the byte
 // that it also tells; and for 4 to 8 where the bytes stop. For the program `vectors`.
+#![tactic(auto)]
+
 use bits::Place;
 use decoder::{Decoded, ImageLen, Refusal};
 use gorilla::Array;

@@ -1,4 +1,6 @@
 // The bodies that compare/FORMAT.md allows each kind of record. For the program `vectors`.
+#![tactic(auto)]
+
 ghost use Rattle.std.specs.Prelude.{◌<◌};
 
 use vector_bodies::lists::{LISTED, MOST};

@@ -11,14 +11,14 @@ use vector_bytes::{i64_at, part, u8_at, u16_at, u32_at, u64_at};
 use vector_outcomes::refused_so;
 
 // The table after a record, and whether the record's answer was met.
-#[derive(Drop)]
+#[derive(Clone, Copy)]
 pub struct Changed {
     pub table: SequenceTracker,
     pub agreed: bool,
 }
 
 // What came of a list of offers: how many were recorded, went back and came too soon, and the number of a refusal, 0 if none.
-#[derive(Drop)]
+#[derive(Clone, Copy)]
 struct Ran {
     table: SequenceTracker,
     tally: Tally,

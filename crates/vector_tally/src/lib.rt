@@ -1,4 +1,6 @@
 // How many answers of the Rust were met and how many were not, by what was asked. For the program `vectors` and the crates beside it.
+#![tactic(auto)]
+
 use std::num::wrapping_add_u64;
 
 pub const WRITES: usize = 0;

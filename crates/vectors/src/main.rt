@@ -1,4 +1,6 @@
 // Replays answers of the real Rust on the port and compares every one. compare/FORMAT.md says what the input has.
+#![tactic(auto)]
+
 mod records; // records.rt: one record of any kind
 mod stored; // stored.rt: the input, one record after the other
 mod verdict; // verdict.rt: what is printed

@@ -12,7 +12,7 @@ pub const ROOM: usize = 1048576;
 const HEAD: usize = 8;
 
 // How the input is.
-#[derive(Drop)]
+#[derive(Clone, Copy)]
 pub enum Input {
     // as FORMAT.md has it
     Whole,
@@ -29,7 +29,7 @@ pub enum Input {
 }
 
 // What came of the input, and how many of its records were replayed: all, or those before the damage.
-#[derive(Drop)]
+#[derive(Clone, Copy)]
 pub struct Replayed {
     pub records: usize,
     pub input: Input,

@@ -1,4 +1,6 @@
 // A lookup's answer and its reason as numbers, for programs in other languages. The exported calls stand in `skutlaneb`.
+#![tactic(auto)]
+
 pub mod inner; // inner.rt: the answers, for the exported calls
 
 use answers::Answer;
@@ -7,7 +9,7 @@ use answers::Answer;
 // last, 6 table empty. `position` is that of the pair that answers, with 1, 2 and 3. `below` and `above` are the neighbouring positions, with 2 and 3,
 // each where its mark is 1. What is not there is 0.
 #[repr(C)]
-#[derive(Drop)]
+#[derive(Clone, Copy)]
 pub struct WhyAnswer {
     pub answer: Answer,
     pub reason: u32,

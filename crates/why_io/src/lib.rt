@@ -1,5 +1,7 @@
 // Standard input and output of the program `why`. No contract can say which bytes a call of C's reads or writes. What can be said is said of the
 // lent buffers.
+#![tactic(auto)]
+
 ghost use Rattle.std.specs.Prelude.{◌≤◌, length, take};
 ghost use Rattle.text.specs.Text.{Stands};
 ghost use Rattle.running.specs.Run.{Ran};

@@ -1,4 +1,6 @@
 // The text that the program `why` prints for the bytes that it reads: a question's line and an image.
+#![tactic(auto)]
+
 ghost use Rattle.std.specs.Prelude.{◌≤◌, length};
 ghost use Rattle.text.specs.Text.{Stands};
 ghost use Rattle.text.specs.Inner.{Put};

@@ -1,0 +1,10 @@
+use Rattle.search.proofs.inner.seqs.first_not_below.Goals as goal
+
+pub returns-then-n-lt4096 : goal.returns-then-n-lt4096
+returns-then-n-lt4096 c = c.by_halves.ensures
+
+pub returns-then-n-gt8192 : goal.returns-then-n-gt8192
+returns-then-n-gt8192 c = c.by_halves-then-n-gt8192.ensures
+
+pub returns : goal.returns
+returns c = c.by_known_halves.ensures
