@@ -1,13 +1,11 @@
-use Prim.Native.Nat.{◌+◌, ◌-◌, ◌/◌}
 use lib.IntN.{pos}
 use lib.Signed.{lt_z}
-use mir.Syntax.{w64}
-use mir.Val.{to_z, of_z}
 use Rattle.search.specs.Inner.{Bracket}
+use Prim.Native.Nat.{◌-◌}
 use Rattle.search.proofs.inner.secs.by_halves.Given as goal
 
 abbrev pub invariant-loop-lo : goal.invariant-loop-lo
-invariant-loop-lo l = Bracket lt_z (pos 0) l.secs (to_z w64 l.x) l.n l.lo l.hi
+invariant-loop-lo l = Bracket lt_z (pos 0) l.secs l.x l.n l.lo l.hi
 
 abbrev pub decreases-loop-lo : goal.decreases-loop-lo
 decreases-loop-lo l = l.hi - l.lo

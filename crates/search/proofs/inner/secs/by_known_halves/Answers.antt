@@ -60,8 +60,8 @@ overflow_add-result c = omega (arith, one_of (goal.at.overflow_add-result c).Aft
 
 pub returns-then-secs-p : goal.returns-then-secs-p
 returns-then-secs-p c =
-    place_after lt_z (pos 0) c.args.secs.now c.args.x c.args.n int_order c.requires.0.1 c.half-p-12.result (rw (to_z-of_z c.ranges.x) at c.half-p-12.ensures) (rw (round (get_or c.args.secs.now c.half-p-12.result (pos 0)) c.t19-1.given, to_z-of_z c.ranges.x) at c.if-secs-p.true)
+    place_after lt_z (pos 0) c.args.secs.now c.args.x c.args.n int_order c.requires.0.1 c.half-p-12.result (rw (to_z-of_z c.ranges.x) at c.half-p-12.ensures) (rw (round (get_or c.args.secs.now c.half-p-12.result (pos 0)) (omega arith), to_z-of_z c.ranges.x) at c.if-secs-p.true)
 
 pub returns-else-secs-p : goal.returns-else-secs-p
 returns-else-secs-p c =
-    place_here lt_z (pos 0) c.args.secs.now c.args.x c.args.n int_order c.requires.0.1 c.half-p-12.result (rw (to_z-of_z c.ranges.x) at c.half-p-12.ensures) (rw (round (get_or c.args.secs.now c.half-p-12.result (pos 0)) c.t19-1.given, to_z-of_z c.ranges.x) at c.if-secs-p.false)
+    place_here lt_z (pos 0) c.args.secs.now c.args.x c.args.n int_order c.requires.0.1 c.half-p-12.result (rw (to_z-of_z c.ranges.x) at c.half-p-12.ensures) (rw (round (get_or c.args.secs.now c.half-p-12.result (pos 0)) (omega arith), to_z-of_z c.ranges.x) at c.if-secs-p.false)
