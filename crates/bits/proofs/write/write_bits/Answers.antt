@@ -1,4 +1,3 @@
-use native.Mathlib.Omega.{arith}
 use borrow.Author.Rules.{rules}
 use Prim.Native.Nat.{◌+◌, ◌*◌}
 use Rattle.bits.proofs.Answers.{write_width, write_short, write_done}
@@ -15,5 +14,5 @@ returns-then-buf-n c =
 pub returns : goal.returns
 returns c =
     let p = c.settle-p.result in
-    write_done _ _ _ _ _ (p.byte * 8 + p.bit) (λ j. omega (arith, c.type_inv.buf-1 j)) (search rules) c.settle-p.ensures.pos (search rules)
+    write_done _ _ _ _ _ (p.byte * 8 + p.bit) (search rules) (search rules) c.settle-p.ensures.pos (search rules)
     c.after.ensures c.put_bits.ensures
