@@ -62,58 +62,58 @@ pub fn note(tally: &mut [u64; PLACES], question: usize, agreed: bool) {
 }
 
 // This and what follows answer whether all was written.
-pub fn print_word(word: &[u8]) -> bool {
-    io::write_all(libc::STDOUT_FILENO, word)
+pub fn print_word(rt: &impl Print, word: &[u8]) -> bool {
+    rt.write_all(word).is_ok()
 }
 
-pub fn print_number(n: u64) -> bool {
-    io::print_decimal(libc::STDOUT_FILENO, n)
+pub fn print_number(rt: &impl Print, n: u64) -> bool {
+    print!(rt; "{n}").is_ok()
 }
 
-fn print_line(name: &[u8], tally: &[u64; PLACES], question: usize) -> bool {
+fn print_line(rt: &impl Print, name: &[u8], tally: &[u64; PLACES], question: usize) -> bool {
     if question >= KINDS {
         return false;
     }
-    print_word(name)
-        & print_word(b" agreed ")
-        & print_number(tally[question])
-        & print_word(b" differed ")
-        & print_number(tally[question + KINDS])
-        & print_word(b"\n")
+    print_word(rt, name)
+        & print_word(rt, b" agreed ")
+        & print_number(rt, tally[question])
+        & print_word(rt, b" differed ")
+        & print_number(rt, tally[question + KINDS])
+        & print_word(rt, b"\n")
 }
 
 // The line that says that some answers differ, if some do.
-fn print_failed(tally: &[u64; PLACES]) -> bool {
+fn print_failed(rt: &impl Print, tally: &[u64; PLACES]) -> bool {
     let differed = tally[ANSWERS + KINDS];
     if differed == 0 {
         return true;
     }
-    print_word(b"failed: ")
-        & print_number(differed)
-        & print_word(b" of ")
-        & print_number(wrapping_add_u64(tally[ANSWERS], differed))
-        & print_word(b" answers differ\n")
+    print_word(rt, b"failed: ")
+        & print_number(rt, differed)
+        & print_word(rt, b" of ")
+        & print_number(rt, wrapping_add_u64(tally[ANSWERS], differed))
+        & print_word(rt, b" answers differ\n")
 }
 
-fn print_codec(tally: &[u64; PLACES]) -> bool {
-    print_line(b"writes", tally, WRITES)
-        & print_line(b"reads", tally, READS)
-        & print_line(b"extensions", tally, EXTENSIONS)
-        & print_line(b"encodings", tally, ENCODINGS)
-        & print_line(b"readbacks", tally, READBACKS)
-        & print_line(b"decodings", tally, DECODINGS)
-        & print_line(b"lengths", tally, LENGTHS)
+fn print_codec(rt: &impl Print, tally: &[u64; PLACES]) -> bool {
+    print_line(rt, b"writes", tally, WRITES)
+        & print_line(rt, b"reads", tally, READS)
+        & print_line(rt, b"extensions", tally, EXTENSIONS)
+        & print_line(rt, b"encodings", tally, ENCODINGS)
+        & print_line(rt, b"readbacks", tally, READBACKS)
+        & print_line(rt, b"decodings", tally, DECODINGS)
+        & print_line(rt, b"lengths", tally, LENGTHS)
 }
 
-pub fn print(tally: &[u64; PLACES]) -> bool {
-    print_failed(tally)
-        & print_codec(tally)
-        & print_line(b"offers", tally, OFFERS)
-        & print_line(b"tables", tally, TABLES)
-        & print_line(b"lookups", tally, LOOKUPS)
-        & print_line(b"saves", tally, SAVES)
-        & print_line(b"runs", tally, RUNS)
-        & print_line(b"extends", tally, EXTENDS)
-        & print_line(b"restores", tally, RESTORES)
-        & print_line(b"answers", tally, ANSWERS)
+pub fn print(rt: &impl Print, tally: &[u64; PLACES]) -> bool {
+    print_failed(rt, tally)
+        & print_codec(rt, tally)
+        & print_line(rt, b"offers", tally, OFFERS)
+        & print_line(rt, b"tables", tally, TABLES)
+        & print_line(rt, b"lookups", tally, LOOKUPS)
+        & print_line(rt, b"saves", tally, SAVES)
+        & print_line(rt, b"runs", tally, RUNS)
+        & print_line(rt, b"extends", tally, EXTENDS)
+        & print_line(rt, b"restores", tally, RESTORES)
+        & print_line(rt, b"answers", tally, ANSWERS)
 }
