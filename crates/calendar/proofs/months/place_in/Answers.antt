@@ -1,5 +1,5 @@
 use mathlib.Core.Path.{◌≡◌}
-use Prim.Native.Nat.{◌+◌, ◌-◌, ◌<◌}
+use Prim.Native.Nat.{◌+◌, ◌-◌}
 use native.Mathlib.Omega.{arith}
 use lib.ListN.{take}
 use Rattle.calendar.specs.Calendar.{lengths_of, summed}
@@ -15,7 +15,7 @@ overflow_sub-left c = omega (arith, c.month_length.ensures, c.month_length-left.
 pub loop-left-preserved : goal.loop-left-preserved
 loop-left-preserved c =
     let e : c.args.d ≡ summed (take (c.loop-left.m + 1) (lengths_of c.args.leap)) + (c.loop-left.left - c.month_length-left.result) =
-    omega (arith, sub_left c, c.month_length-left.ensures, ahead_more c.args.leap c.loop-left.m c.loop-left.invariant.0) in
+    omega (arith, c.month_length.ensures, c.month_length-left.ensures, c.loop-left-test.true, ahead_more c.args.leap c.loop-left.m c.loop-left.invariant.0) in
     (not_yet c.args.leap (c.loop-left.m + 1) c.args.d _ c.requires e, e)
 
 pub returns : goal.returns
