@@ -1,5 +1,4 @@
 use native.Mathlib.Omega.{arith}
-use Prim.Native.Nat.{◌+◌, ◌-◌, ◌≤◌}
 use lib.Seq.{take_all}
 use Rattle.text.proofs.Putting.{put_length, copied}
 use Rattle.text.proofs.inner.put_bytes.Goals as goal

@@ -1,5 +1,4 @@
 use native.Mathlib.Omega.{arith}
-use Prim.Native.Nat.{◌-◌}
 use Rattle.text.proofs.Putting.{then, put_length}
 use Rattle.text.proofs.Numbers.{decimal-length}
 use Rattle.text.proofs.inner.put_word_line.Goals as goal
