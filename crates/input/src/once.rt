@@ -3,6 +3,8 @@
 ghost use Rattle.std.specs.Prelude.{◌≡◌};
 ghost use Rattle.input.specs.Inner.{ReadingOf, Counted, after_read, Reads};
 
+use std::io;
+
 // Standard input that is being read into a buffer.
 #[derive(Clone, Copy)]
 pub struct Reading {
@@ -49,37 +51,44 @@ pub fn begin(room: usize) -> Reading
 }
 
 // What a read that answered `got` came to.
-fn after(at: Reading, got: isize) -> Read
+fn after(at: Reading, got: io::Result<usize>) -> Read
     requires { Counted at.bytes got }
     ensures { result ≡ after_read at got }
 {
     let done = at.bytes;
-    if got < 0 {
-        return Read::Over(Over {
+    match got {
+        Err(_) => Read::Over(Over {
             bytes: done,
             room: at.room,
             failed: true,
-        });
-    }
-    if got == 0 {
-        return Read::Over(Over {
+        }),
+        Ok(0) => Read::Over(Over {
             bytes: done,
             room: at.room,
             failed: false,
-        });
+        }),
+        Ok(more) => Read::More(Reading {
+            bytes: done + more,
+            room: at.room,
+        }),
     }
-    Read::More(Reading {
-        bytes: done + got as usize,
-        room: at.room,
-    })
 }
 
-// One read, into the buffer from the bytes on that were read before it.
-pub fn read_more(buf: &mut [u8], at: Reading) -> Read
+// One read, into the buffer from the bytes on that were read before it. Where it fails, its error is left in `failure`.
+pub fn read_more<R: io::Read>(
+    from: &mut R,
+    buf: &mut [u8],
+    at: Reading,
+    failure: &mut Option<io::Error>,
+) -> Read
     requires { ReadingOf at buf.old }
-    ensures { Reads buf.old at buf.new result }
+    ensures { Reads (record { left = R.remaining from.old; buffer = buf.old; failure = failure.old }) at
+        (record { left = R.remaining from.new; buffer = buf.new; failure = failure.new }) result }
 {
     let done = at.bytes;
-    let got = libc::read(libc::STDIN_FILENO, &mut buf[done..]);
+    let got = from.read(&mut buf[done..]);
+    if let Err(e) = got {
+        *failure = Some(e);
+    }
     after(at, got)
 }
