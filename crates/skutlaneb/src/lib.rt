@@ -1,4 +1,4 @@
-// The public calls for programs in other languages: a static library of plain functions, built by `rt staticlib skutlaneb`.
+// The public calls for programs in other languages: a static library of plain functions, built by `rt lib`.
 //
 // Numbers, slices and structs of numbers cross; a slice is a pointer and a length. No call has a `requires`: any numbers
 // are taken, and what they do not make is refused by a number of docs/RULES.md. No call allocates. The two restores take 128 KB
