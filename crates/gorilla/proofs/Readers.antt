@@ -3,14 +3,10 @@ use Prim.Native.Nat.{ℕ, zero, suc, ◌+◌, ◌-◌, ◌*◌, ◌/◌, ◌%◌
 use mathlib.Core.Path.{◌≡◌, refl, sym, ap, ap₂, ◌∙◌}
 use mathlib.Core.List.{List, [], ◌∷◌}
 use native.Mathlib.Omega.{arith}
-use borrow.Author.Tests.{ne_eqb}
 use lib.ListN.{length, drop, get_or, length-drop}
-use lib.IntN.{ℤ, pos}
-use Rattle.signed.specs.declared.Extended.TheVariants as ev
-use Rattle.signed.specs.Extend.{extend, extend_rule, told_extend}
+use lib.IntN.{ℤ}
 use Rattle.gorilla.specs.Rows.{decoded}
 use Rattle.gorilla.specs.Rows.{widths}
-use Rattle.signed.proofs.Widths.{taken}
 use Rattle.bits.specs.Place.{pos_of, left_at, place_of}
 use Rattle.bits.specs.Read.{read_rule, told_read}
 use Rattle.bits.specs.declared.Place.{Place}
@@ -96,15 +92,6 @@ module _ (a i k n : ℕ) where
   at-end [] h = refl
   at-end (zero ∷ bs) h = let o = one_bit [] 0 bs in let z : ◌≡◌ {A = ℕ} 0 1 = cc in absurd (omega arith)
   at-end (suc c ∷ bs) h = let o = one_bit [] (suc c) bs in let z : ◌≡◌ {A = ℕ} 0 1 = cc in absurd (omega arith)
-
--- ---- a difference of w bits
-pub value-decoded : (v w : ℕ) {d : ℤ} → told_extend (ev.Value d) ≡ extend_rule v w → w ≤ 32 → d ≡ decoded w v
-value-decoded v zero h k = let z : ◌≡◌ {A = ℕ} 0 1 = cc in absurd (omega arith)
-value-decoded v (suc w) {d} h k = let e = taken v (suc w) (omega arith) k in let q : d ≡ extend (suc w) v = cc in simp (ne_eqb (suc w) 0 (λ z. omega arith)) q
-
-pub none-decoded : (v w : ℕ) → told_extend ev.Width ≡ extend_rule v w → w ≤ 32 → pos 0 ≡ decoded w v
-none-decoded v zero h k = refl
-none-decoded v (suc w) h k = let e = taken v (suc w) (omega arith) k in let z : ◌≡◌ {A = ℕ} 0 1 = cc in absurd (omega arith)
 
 -- a width is at most 32
 pub width_most : (n : ℕ) → get_or widths n 0 ≤ 32

@@ -18,6 +18,7 @@ pub fn width_of(ones: usize) -> u8
 }
 
 // The row of a difference of deltas: the first that matches.
+#[tactic(auto, using(std::proofs::lemmas::Int::ints), unfolding(crate::specs::Rows::row_of))]
 pub fn row_of(dod: i64) -> Row
     ensures { result ≡ row_of dod }
 {
@@ -51,6 +52,7 @@ pub fn row_of(dod: i64) -> Row
 }
 
 // Whether 32 bits hold a difference of deltas.
+#[tactic(auto, using(std::proofs::lemmas::Int::ints), unfolding(crate::specs::Rows::strict))]
 pub fn is_strict(dod: i64) -> bool
     ensures { result ≡ strict dod }
 {
