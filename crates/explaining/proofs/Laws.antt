@@ -10,7 +10,6 @@ use lib.ListN.{take}
 use lib.Signed.{lt_z}
 use Rattle.told.specs.Told.{Told, gave, refused, if_good}
 use Rattle.told.proofs.Unique.{given_not_refused, same-list, same_gift}
-use Rattle.order.specs.First.{first}
 use Rattle.order.specs.Order.{drops}
 use Rattle.order.specs.Inner.{NoneBelow}
 use Rattle.order.proofs.Bools.{not_given}
