@@ -1,8 +1,7 @@
 // A reader of bits: the caller's bytes, and a place in them. A reader is a value, so a read moves no place: its
 // answer tells the place after the bits, and `moved` gives the reader that stands there.
 //
-// A call over a struct that holds a reference is proved by a walk of its MIR, so these are few and thin: the work
-// is `read_bits`. Who calls `read_from`, which has plain parameters, needs no walk.
+// The work is `read_bits`. `read_from` is for a caller that holds no reader.
 #![tactic(auto)]
 
 ghost use Rattle.std.specs.Prelude.{◌≡◌};
