@@ -1,0 +1,36 @@
+use borrow.Author.Tests.{ltb-false}
+use mathlib.Core.Path.{◌≡◌, refl, sym, ◌∙◌, ap}
+use mathlib.Core.Bool.{false}
+use mathlib.Core.List.{[], ◌∷◌}
+use lib.Dec.{ltb}
+use Rattle.order.proofs.Bools.{passed}
+use Rattle.told.specs.Told.{gave}
+use Rattle.tracker.specs.Table.{check_of}
+use Rattle.questions.specs.Asked.{told_asked}
+use Rattle.questions.proofs.Good.{good-pairs, gives_ts}
+use Rattle.questions.proofs.Left.{if_done, if_refused}
+use Rattle.sheets.proofs.Fill.{filled-by}
+use Rattle.sheets.proofs.find_ts_16.Goals as goal
+use Rattle.sheets.proofs.find_ts_16.Goals.{In-Done}
+
+pub returns-in_default : goal.returns-in_default
+returns-in_default c = (c.judged-asked.ensures, if_refused _ _ _ c.judged-asked.result c.in_default.not-Done c.judged-asked.ensures refl)
+
+-- not refused, there are at most sixteen questions and the table is good
+passes : (c : In-Done) → let a = c.args in (ltb 16 a.sheet.used ≡ false) × (check_of a.table a.seqs.now a.secs.now ≡ gave tt)
+passes c =
+    let a = c.args in
+    passed (ltb 16 a.sheet.used) (35 ∷ []) _ tt (sym c.judged-asked.ensures ∙ ap told_asked c.in-Done.is)
+
+pub answers-answered-requires : goal.answers-answered-requires
+answers-answered-requires c =
+    let a = c.args in
+    (good-pairs a.table a.seqs.now a.secs.now (passes c).1, ltb-false _ _ (passes c).0)
+
+pub returns : goal.returns
+returns c =
+    let a = c.args in (
+      c.judged-asked.ensures,
+      if_done _ _ _ c.judged-asked.result c.in-Done.is c.judged-asked.ensures
+          (filled-by _ _ _ _ _ _ _ (gives_ts a.table a.seqs.now a.secs.now (passes (goal.at.returns c).In-Done).1 a.find_opt) c.answers-answered.ensures),
+    )
