@@ -2,7 +2,7 @@
 use Rattle.std.proofs.Common.{◌≡◌, ℕ, ◌+◌, ◌-◌, ◌%◌, ◌^◌, ◌<◌, ◌≤◌, true, false, T, ℤ, pos, negsuc, nat_abs, sym, refl, subst, arith, w64, Fits, SFits, to_z, leb-false}
 use lib.Signed.{le_z, non_neg}
 use mir.Facts.{to_z_pos}
-use Rattle.signed.specs.Signed.{signed, pattern, sub_w}
+use Rattle.signed.specs.Signed.{pattern, sub_w}
 
 -- no test is both true and false
 pub never {ℓ} : {X : Type ℓ} → false ≡ true → X

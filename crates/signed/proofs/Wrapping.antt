@@ -1,5 +1,5 @@
 -- Two's complement: round trips, a sum undoes a difference, and exactness where nothing wraps. Assumes nothing.
-use Rattle.std.proofs.Common.{◌≡◌, ℕ, ◌-◌, ◌^◌, ◌<◌, ℤ, pos, negsuc, ap, ◌∙◌, arith, to_z-of_z, w64, SFits}
+use Rattle.std.proofs.Common.{◌≡◌, ℕ, ◌^◌, ◌<◌, ℤ, pos, negsuc, ap, ◌∙◌, arith, to_z-of_z, w64, SFits}
 use mir.Facts.{of_z-to_z}
 use Rattle.signed.specs.Signed.{signed, pattern, sub_w, add_w, sub_s, add_s}
 

@@ -1,4 +1,4 @@
-use Rattle.std.proofs.Common.{◌≡◌, ◌-◌, ◌%◌, ◌^◌, ◌<◌, ◌≤◌, ◌-ℤ◌, sym, ap, ◌∙◌, ap₂, arith, to_z-of_z, w64, to_z, rules}
+use Rattle.std.proofs.Common.{◌≡◌, ◌-◌, ◌%◌, ◌^◌, ◌<◌, ◌≤◌, ◌-ℤ◌, sym, ap, ◌∙◌, ap₂, arith, to_z-of_z, w64, to_z}
 use mir.Facts.{to_z_pos}
 use Rattle.told.specs.Told.{gave}
 use Rattle.signed.specs.Extend.{extend}

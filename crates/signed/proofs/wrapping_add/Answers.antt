@@ -1,4 +1,4 @@
-use Rattle.std.proofs.Common.{◌≡◌, ap, ◌∙◌, to_z-of_z, rules, w64}
+use Rattle.std.proofs.Common.{◌≡◌, ap, ◌∙◌, to_z-of_z, w64}
 use borrow.Author.Rules.{sfits_of}
 use Rattle.signed.specs.Signed.{signed, pattern, add_w}
 use Rattle.signed.proofs.wrapping_add.Goals as goal

@@ -1,4 +1,4 @@
-use Rattle.std.proofs.Common.{◌≡◌, ap, ◌∙◌, arith, to_z-of_z, rules, w64}
+use Rattle.std.proofs.Common.{◌≡◌, ap, ◌∙◌, arith, to_z-of_z, w64}
 use borrow.Author.Rules.{sfits_of}
 use Rattle.signed.specs.Signed.{signed, pattern, sub_w}
 use Rattle.signed.proofs.Signs.{sub_is}

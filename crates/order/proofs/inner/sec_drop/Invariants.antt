@@ -1,6 +1,6 @@
 use lib.Signed.{lt_z}
 use lib.IntN.{pos}
-use mathlib.Core.Path.{◌≡◌, sym, ◌∙◌}
+use mathlib.Core.Path.{◌≡◌}
 use mathlib.Core.Bool.{false}
 use Prim.Native.Nat.{ℕ, ◌≤◌, ◌<◌, ◌-◌}
 use Rattle.order.specs.Order.{drops}

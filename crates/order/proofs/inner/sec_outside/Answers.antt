@@ -1,6 +1,5 @@
 use mathlib.Core.Path.{sym, ◌∙◌}
 use native.Mathlib.Nat.{le_refl}
-use borrow.Author.Tests.{not-true}
 use Rattle.order.proofs.First.{first-none}
 use Rattle.order.proofs.Fours.{between}
 use Rattle.order.proofs.inner.sec_outside.Goals as goal

@@ -1,6 +1,4 @@
 use native.Mathlib.Omega.{arith}
-use Prim.Native.Nat.{ℕ, ◌-◌, ◌≤◌, ◌<◌}
-use mathlib.Core.Bool.{false}
 use lib.Signed.{lt_z}
 use lib.ListN.{get_or}
 use lib.IntN.{pos}

@@ -1,5 +1,5 @@
 use native.Mathlib.Omega.{arith}
-use Prim.Native.Nat.{◌+◌, ◌-◌}
+use Prim.Native.Nat.{◌+◌}
 use Rattle.raw_bits.proofs.Bits.{one_byte, next-byte}
 use Rattle.raw_bits.proofs.inner.half_at.Goals as goal
 

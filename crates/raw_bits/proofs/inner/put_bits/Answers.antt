@@ -5,7 +5,7 @@ use mathlib.Core.Path.{◌≡◌, refl, sym, ap, ◌∙◌, subst}
 use mathlib.Core.List.{List}
 use native.Mathlib.Nat.{le_refl, mod-lt}
 use lib.Pow.{pow_pos}
-use lib.ListN.{length, get_or, set, length-set}
+use lib.ListN.{length, set, length-set}
 use Rattle.raw_bits.specs.Inner.{put_bits}
 use Rattle.raw_bits.proofs.Bits.{put_left, put_total, put_none, put_first, put_all, byte-set}
 use Rattle.raw_bits.proofs.inner.put_bits.Goals as goal

@@ -1,4 +1,4 @@
-use Rattle.std.proofs.Common.{◌≡◌, ℕ, ◌%◌, ◌^◌, ap, ◌∙◌, to_z-of_z, rules}
+use Rattle.std.proofs.Common.{◌≡◌, ℕ, ◌%◌, ◌^◌, ap, ◌∙◌, to_z-of_z}
 use Rattle.signed.specs.Signed.{pattern}
 use Rattle.signed.proofs.inner.low_bits.Goals as goal
 

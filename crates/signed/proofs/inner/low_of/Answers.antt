@@ -1,4 +1,4 @@
-use Rattle.std.proofs.Common.{pow_pos, rules}
+use Rattle.std.proofs.Common.{pow_pos}
 use Rattle.signed.proofs.inner.low_of.Goals as goal
 
 pub nonzero_rem-result : goal.nonzero_rem-result

@@ -1,4 +1,4 @@
-use Rattle.std.proofs.Common.{arith, rules}
+use Rattle.std.proofs.Common.{arith}
 use Rattle.signed.proofs.Widths.{size_is}
 use Rattle.signed.proofs.inner.two_to.Goals as goal
 
