@@ -1,5 +1,5 @@
 -- Small deltas: a difference of two of them lies in -2^31..2^31-1, so that a search finds none outside. Assumes nothing.
-use Rattle.std.proofs.Common.{◌≡◌, ℕ, suc, ◌+◌, ◌-◌, ◌/◌, ◌%◌, ◌^◌, ◌<◌, ◌≤◌, Bool, true, false, ltb, List, [], ◌∷◌, length, get_or, drop, ℤ, pos, negsuc, nat_abs, refl, ap, ◌∙◌, arith, w64, SFits, ltb-false, ltb-true, le-leb}
+use Rattle.std.proofs.Common.{◌≡◌, ℕ, suc, ◌+◌, ◌-◌, ◌%◌, ◌^◌, ◌<◌, ◌≤◌, Bool, true, false, ltb, List, [], ◌∷◌, length, get_or, drop, ℤ, pos, negsuc, nat_abs, refl, ap, ◌∙◌, arith, ltb-false, ltb-true, le-leb}
 use Rattle.told.specs.Told.{gave}
 use Rattle.signed.specs.Signed.{signed, pattern, sub_w, sub_s}
 use Rattle.gorilla.specs.declared.Track.{Track}
@@ -7,11 +7,6 @@ use Rattle.gorilla.specs.Rows.{strict}
 use Rattle.gorilla.specs.Inner.{advanced}
 use Rattle.gorilla.specs.Wide.{wide_after, wide_in}
 use Rattle.strict.proofs.Wide.{wide_last, wide_next}
-
--- a pattern moved up by 2^29 that is below 2^30
-pub moved_small : (d : ℤ) → SFits w64 d → (pattern d + 536870912) % 2 ^ 64 / 2 ^ 30 ≡ 0 → nat_abs d ≤ 2 ^ 29
-moved_small (pos n) f e = omega (arith, f.sfits)
-moved_small (negsuc n) f e = omega (arith, f.sfits)
 
 strict-pos : (n : ℕ) → n ≤ 2 ^ 31 - 1 → strict (pos n) ≡ true
 unfolding strict

@@ -1,6 +1,6 @@
 -- The search for a difference of deltas that is not strict. A loop over the array holds a value with its delta, t, and the
 -- index i of the value that is next. Assumes nothing.
-use Rattle.std.proofs.Common.{◌≡◌, ℕ, suc, ◌+◌, ◌<◌, ◌≤◌, Bool, true, false, cond, not, List, [], ◌∷◌, map, length, get_or, drop, ℤ, pos, sym, refl, ap, ◌∙◌, ap₂, add-one, arith, drop_of_length-le, drop-cons}
+use Rattle.std.proofs.Common.{◌≡◌, ℕ, suc, ◌+◌, ◌<◌, ◌≤◌, Bool, true, false, cond, List, [], ◌∷◌, map, length, get_or, drop, ℤ, pos, sym, refl, ap, ◌∙◌, ap₂, add-one, arith, drop_of_length-le, drop-cons}
 use Rattle.told.specs.Told.{Told, gave, refused, if_good}
 use Rattle.signed.specs.Signed.{signed}
 use Rattle.gorilla.specs.declared.Track.{Track}
@@ -8,14 +8,6 @@ use Rattle.gorilla.specs.declared.Coded.{Coded}
 use Rattle.gorilla.specs.Rows.{strict}
 use Rattle.gorilla.specs.Inner.{advanced}
 use Rattle.gorilla.specs.Wide.{wide_after, wide_in, wide_of}
-
-pub not_true : (b c : Bool) → b ≡ c → not b ≡ true → c ≡ false
-not_true true c e h = sym e ∙ sym h
-not_true false c e h = sym e
-
-pub not_false : (b c : Bool) → b ≡ c → not b ≡ false → c ≡ true
-not_false true c e h = sym e
-not_false false c e h = sym e ∙ sym h
 
 pub wide_none : (a : ℕ) (xs : List ℤ) → length xs ≡ 0 → gave tt ≡ wide_in a xs
 unfolding wide_in
