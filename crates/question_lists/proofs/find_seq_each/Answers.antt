@@ -1,0 +1,42 @@
+use mathlib.Core.Path.{◌≡◌, refl, sym, ◌∙◌, ap}
+use mathlib.Core.Bool.{false}
+use mathlib.Core.List.{[], ◌∷◌}
+use lib.ListN.{length}
+use Rattle.order.proofs.Bools.{passed}
+use Rattle.told.specs.Told.{gave}
+use Rattle.tracker.specs.Table.{check_of}
+use Rattle.questions.specs.Asked.{told_asked}
+use Rattle.questions.proofs.Good.{good-pairs, gives_seq}
+use Rattle.questions.proofs.Left.{if_done, if_refused}
+use Rattle.question_lists.specs.Each.{differ, list_rule}
+use Rattle.question_lists.proofs.Fill.{filled-by, as_long}
+use Rattle.question_lists.proofs.find_seq_each.Goals as goal
+use Rattle.question_lists.proofs.find_seq_each.Goals.{After-judged-asked, In-Done}
+
+-- what is told
+by_rule : (c : After-judged-asked) → let a = c.args in
+    told_asked c.judged-asked.result ≡ list_rule a.table a.seqs.now a.secs.now (length a.keys.now) (length a.answers.now) (length a.found.now)
+by_rule c = rw (← c.differ-differ.ensures) c.judged-asked.ensures
+
+pub returns-in_default : goal.returns-in_default
+returns-in_default c = (by_rule (goal.at.returns-in_default c).After-judged-asked, if_refused _ _ _ c.judged-asked.result c.in_default.not-Done (by_rule (goal.at.returns-in_default c).After-judged-asked) (refl, refl))
+
+-- not refused, the slices have one length and the table is good
+passes : (c : In-Done) → let a = c.args in
+    (differ (length a.keys.now) (length a.answers.now) (length a.found.now) ≡ false) × (check_of a.table a.seqs.now a.secs.now ≡ gave tt)
+passes c =
+    let a = c.args in
+    passed (differ (length a.keys.now) (length a.answers.now) (length a.found.now)) (18 ∷ []) _ tt (rw (← c.differ-differ.ensures) (sym c.judged-asked.ensures ∙ ap told_asked c.in-Done.is))
+
+pub answers-requires : goal.answers-requires
+answers-requires c =
+    let a = c.args in
+    (good-pairs a.table a.seqs.now a.secs.now (passes (goal.at.answers-requires c).In-Done).1, as_long _ _ _ (passes (goal.at.answers-requires c).In-Done).0)
+
+pub returns : goal.returns
+returns c =
+    let a = c.args in (
+      by_rule (goal.at.returns c).After-judged-asked,
+      if_done _ _ _ c.judged-asked.result c.in-Done.is (by_rule (goal.at.returns c).After-judged-asked)
+          (filled-by _ _ _ _ _ _ _ _ _ _ (gives_seq a.table a.seqs.now a.secs.now (passes (goal.at.returns c).In-Done).1 a.find_opt) c.answers.ensures),
+    )
