@@ -14,8 +14,8 @@ use Rattle.gorilla.specs.Reading.{cut_number, count_ones, read_code, read_codes,
 use Rattle.gorilla.specs.Rows.{row_of, strict}
 use Rattle.gorilla.specs.Wide.{wide_after, wide_in, wide_of}
 use Rattle.keeping.specs.Keep.{evens}
-use Rattle.log.specs.Log.{run_of}
-use Rattle.log.specs.Pairs.{records_of}
+use Rattle.offer_log.specs.Log.{run_of}
+use Rattle.offer_log.specs.Pairs.{records_of}
 use Rattle.encoder.specs.Encode.{arrays_rule}
 use Rattle.told.specs.Room.{room_rule}
 use Rattle.decoder.specs.Decode.{listed}

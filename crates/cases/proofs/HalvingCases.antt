@@ -7,7 +7,7 @@ use lib.ListN.{length}
 use Rattle.order.specs.First.{first_from, last_or}
 use Rattle.tracker.specs.declared.TrackedSeq.{TrackedSeq}
 use Rattle.keeping.specs.Keep.{evens}
-use Rattle.log.specs.Pairs.{records_of}
+use Rattle.offer_log.specs.Pairs.{records_of}
 use Rattle.theorems.specs.Run.{step, ran_to}
 use Rattle.halving.specs.History.{recorded_of, halvings_of}
 use Rattle.halving.specs.Coarse.{pair_at, Places, Coarse}

@@ -10,7 +10,7 @@ use Rattle.lookup.specs.Find.{Partner, partner, nothing}
 use Rattle.questions.specs.Answered.{Answered}
 use Rattle.questions.specs.declared.TsAnswer.{TsAnswer}
 use Rattle.keeping.specs.Keep.{evens}
-use Rattle.log.specs.Pairs.{records_of}
+use Rattle.offer_log.specs.Pairs.{records_of}
 use Rattle.theorems.specs.Run.{step, ran_to}
 use Rattle.cases.specs.Given.{second}
 use Rattle.cases.specs.QuestionCases.{QuestionCases}

@@ -21,8 +21,8 @@ use Rattle.totals.specs.declared.Fate.TheVariants as fate
 use Rattle.tracker.specs.Rest.{with_totals}
 use Rattle.offers.specs.Offer.{Outcome, recorded, went_back, too_soon, pair_refused, counting, offer_to}
 use Rattle.tallies.specs.Tally.{none_yet}
-use Rattle.log.specs.Log.{done, stopped, log_of}
-use Rattle.log.specs.Pairs.{extend_of}
+use Rattle.offer_log.specs.Log.{done, stopped, log_of}
+use Rattle.offer_log.specs.Pairs.{extend_of}
 use Rattle.encoder.specs.Encode.{len_rule, encode_rule, strict_rule}
 use Rattle.decoder.specs.Decode.{decode_rule, seqs_after, secs_after}
 use Rattle.offers.specs.Whole.{Table}

@@ -17,7 +17,7 @@ use Rattle.order.proofs.Order.{Order, itself}
 use Rattle.tracker.specs.declared.TrackedSeq.{TrackedSeq}
 use Rattle.lookup.specs.declared.FindOption.{FindOption}
 use Rattle.lookup.specs.declared.FindOption.TheVariants.{RoundUp, RoundDown}
-use Rattle.log.proofs.Run.{no_record}
+use Rattle.offer_log.proofs.Run.{no_record}
 use Rattle.halving.specs.Coarse.{pair_at, Places, InOrder}
 use Rattle.halving.specs.Asked.{Close, named}
 use Rattle.halving.proofs.Level.{level, level_step, bound, bound_falls, bound_most}

@@ -21,7 +21,7 @@ use Rattle.lookup.specs.declared.FindOption.{FindOption}
 use Rattle.lookup.specs.declared.FindOption.TheVariants.{RoundUp, RoundDown}
 use Rattle.lookup.proofs.Laws.{place_same, standing-same}
 use Rattle.offers.specs.Whole.{Table, check_in}
-use Rattle.log.proofs.Run.{no_record}
+use Rattle.offer_log.proofs.Run.{no_record}
 use Rattle.halving.specs.History.{kept_pairs, History}
 use Rattle.halving.specs.Coarse.{pair_at, Places, InOrder}
 use Rattle.halving.specs.Asked.{CloseBy, named, Answers}

@@ -29,7 +29,7 @@ use Rattle.offers.specs.Whole.{Table, whole, check_in}
 use Rattle.offers.specs.Offer.{Outcome, recorded, went_back, too_soon, pair_refused, counting, offer_to, offered_to}
 use Rattle.offers.proofs.Counted.{counts_so}
 use Rattle.offers.proofs.Preserved.{taken}
-use Rattle.log.specs.Pairs.{records_of}
+use Rattle.offer_log.specs.Pairs.{records_of}
 use Rattle.restoring.specs.Restore.{read_table}
 use Rattle.theorems.specs.Run.{step, ran_to, answers}
 use Rattle.theorems.specs.Lists.{offers_of}

@@ -21,8 +21,8 @@ use Rattle.keeping.proofs.Thinned.{appended-length}
 use Rattle.offers.specs.Whole.{Table, check_in}
 use Rattle.offers.specs.Offer.{recorded, offer_to, offered_to}
 use Rattle.offers.proofs.Preserved.{taken, recorded-seqs, recorded-secs, after-low, after_last}
-use Rattle.log.specs.Pairs.{pair_of, records_of}
-use Rattle.log.proofs.Records.{front_length, front_at}
+use Rattle.offer_log.specs.Pairs.{pair_of, records_of}
+use Rattle.offer_log.proofs.Records.{front_length, front_at}
 use Rattle.halving.specs.History.{kept_pairs}
 use Rattle.halving.specs.Coarse.{pair_at}
 

@@ -24,7 +24,7 @@ use Rattle.offers.specs.Whole.{Table, whole, check_in}
 use Rattle.offers.specs.Offer.{Outcome, recorded, went_back, too_soon, pair_refused, counting, offer_to, offered_to}
 use Rattle.offers.proofs.Counted.{counts_so}
 use Rattle.offers.proofs.Preserved.{taken, stays_good}
-use Rattle.log.proofs.Run.{no_record}
+use Rattle.offer_log.proofs.Run.{no_record}
 use Rattle.theorems.specs.Run.{step, ran_to}
 use Rattle.theorems.specs.Totals.{was_recorded}
 use Rattle.halving.specs.History.{kept_pairs, after, records, halves, now, recorded_of, halvings_of}

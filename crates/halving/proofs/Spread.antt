@@ -14,7 +14,7 @@ use Rattle.order.proofs.Bools.{below_or}
 use Rattle.tracker.specs.declared.TrackedSeq.{TrackedSeq}
 use Rattle.keeping.specs.Keep.{evens}
 use Rattle.keeping.proofs.Thinned.{get_d_evens, length-evens}
-use Rattle.log.proofs.Run.{no_record}
+use Rattle.offer_log.proofs.Run.{no_record}
 use Rattle.halving.specs.Coarse.{Places}
 
 -- at each recorded pair x, or after it by fewer than g x, stands one that is kept

@@ -1,7 +1,7 @@
 -- Where the pairs that are kept stand among those that were recorded, and how far apart.
 use Rattle.std.specs.Prelude.{ℕ, ◌+◌, ◌-◌, ◌*◌, ◌/◌, ◌^◌, ◌≤◌, ◌<◌, ◌≡◌, Bool, false, cond, ◌↔◌, List, leb, pos, length, get_or}
 use Rattle.tracker.specs.declared.TrackedSeq.{TrackedSeq}
-use Rattle.log.specs.Pairs.{pair_of}
+use Rattle.offer_log.specs.Pairs.{pair_of}
 use Rattle.halving.specs.History.{History}
 
 -- the pair at a place of a list, counted from 0 (every use is of a place that the list has)

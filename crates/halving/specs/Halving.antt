@@ -12,7 +12,7 @@ use Rattle.keeping.specs.Keep.{evens}
 use Rattle.lookup.specs.Find.{Partner, find_ts, find_seq}
 use Rattle.lookup.specs.declared.FindOption.{FindOption}
 use Rattle.offers.specs.Whole.{Table, whole, check_in}
-use Rattle.log.specs.Pairs.{records_of}
+use Rattle.offer_log.specs.Pairs.{records_of}
 use Rattle.restoring.specs.Restore.{read_table, RestoresAt}
 use Rattle.restoring.specs.declared.Restored.TheVariants as restored
 use Rattle.halving.specs.History.{kept_pairs, after, records, halves, now, recorded_of, halvings_of, history_of}

@@ -3,7 +3,7 @@ use Rattle.std.specs.Prelude.{ℕ, suc, ◌+◌, Bool, cond, ◌&&◌, List, [],
 use Rattle.tracker.specs.declared.TrackedSeq.{TrackedSeq}
 use Rattle.offers.specs.Whole.{Table}
 use Rattle.offers.specs.Offer.{offer_to}
-use Rattle.log.specs.Pairs.{records_of}
+use Rattle.offer_log.specs.Pairs.{records_of}
 use Rattle.theorems.specs.Alike.{kept_in}
 use Rattle.theorems.specs.Run.{offered, step, ran_to}
 use Rattle.theorems.specs.Lists.{offers_of}

@@ -7,7 +7,7 @@ use native.Mathlib.Omega.{arith}
 use lib.IntN.{ℤ}
 use lib.ListN.{length, take}
 use lib.Seq.{take_all}
-use Rattle.log.specs.Pairs.{records_of}
+use Rattle.offer_log.specs.Pairs.{records_of}
 
 -- two lists of one length have no more records than the first of them is long
 pub all-records : (seqs : List ℕ) (secs : List ℤ) → length seqs ≡ length secs → records_of (take (length seqs) seqs) (take (length seqs) secs) ≡ records_of seqs secs

@@ -2,10 +2,10 @@
 #![tactic(auto)]
 
 ghost use Rattle.offers.specs.Whole.{whole, Leaves};
-ghost use Rattle.log.specs.Log.{told_log};
-ghost use Rattle.log.specs.Pairs.{pairs_log_of, extend_of};
+ghost use Rattle.offer_log.specs.Log.{told_log};
+ghost use Rattle.offer_log.specs.Pairs.{pairs_log_of, extend_of};
 
-use log::Logged;
+use offer_log::Logged;
 use pair_walk::inner::pairs_good;
 use tracker::{Checked, SequenceTracker, check};
 

@@ -31,17 +31,17 @@ use Rattle.tracker.specs.declared.TrackedSeq.{TrackedSeq}
 use Rattle.tracker.specs.declared.SequenceTracker.{SequenceTracker}
 use Rattle.offers.specs.Whole.{whole}
 use Rattle.tallies.specs.Tally.{total}
-use Rattle.log.specs.Inner.{Begins, Steps}
-use Rattle.log.specs.declared.inner.Progress.{Progress}
+use Rattle.offer_log.specs.Inner.{Begins, Steps}
+use Rattle.offer_log.specs.declared.inner.Progress.{Progress}
 use Rattle.log_records.proofs.Both.{X, Z, LentX, LentZ, Callee, gives_back}
 use Rattle.tracker.specs.contracts.TrackedSeq as T
 use Rattle.tracker.proofs.TrackedSeq.TheLaws as T'
 use Rattle.tracker.specs.contracts.SequenceTracker as S
 use Rattle.tracker.proofs.SequenceTracker.TheLaws as S'
-use Rattle.log.specs.contracts.inner.Progress as P
-use Rattle.log.proofs.inner.Progress.TheLaws as P'
+use Rattle.offer_log.specs.contracts.inner.Progress as P
+use Rattle.offer_log.proofs.inner.Progress.TheLaws as P'
 use Rattle.log_records.specs.contracts.begin as bgn
-use Rattle.log.specs.contracts.inner.step as stp
+use Rattle.offer_log.specs.contracts.inner.step as stp
 
 abbrev pub low_r : TrackedSeq → List Val
 low_r d = T'.lowered d ∷ []

@@ -2,11 +2,11 @@
 #![tactic(auto)]
 
 ghost use Rattle.offers.specs.Whole.{whole, Leaves};
-ghost use Rattle.log.specs.Log.{told_log, log_of};
-ghost use Rattle.log.specs.Inner.{Begins};
+ghost use Rattle.offer_log.specs.Log.{told_log, log_of};
+ghost use Rattle.offer_log.specs.Inner.{Begins};
 
-use log::inner::{Phase, Progress};
-use log::{Logged, inner as steps};
+use offer_log::inner::{Phase, Progress};
+use offer_log::{Logged, inner as steps};
 use tallies::inner::none_yet;
 use tracker::{Checked, SequenceTracker, TrackedSeq, check};
 

@@ -3,11 +3,11 @@ ghost use Rattle.std.specs.Prelude.{◌≡◌, ◌≤◌, ◌<◌, length, get_o
 ghost use Rattle.told.specs.Told.{gave};
 ghost use Rattle.tracker.specs.Table.{check_of};
 ghost use Rattle.offers.specs.Whole.{whole, Leaves};
-ghost use Rattle.log.specs.Log.{told_log};
-ghost use Rattle.log.specs.Pairs.{pair_of};
+ghost use Rattle.offer_log.specs.Log.{told_log};
+ghost use Rattle.offer_log.specs.Pairs.{pair_of};
 ghost use Rattle.pair_walk.specs.Inner.{front_of};
 
-use log::{Logged, inner as steps};
+use offer_log::{Logged, inner as steps};
 use tallies::inner::none_yet;
 use tracker::{Second, Seq, SequenceTracker, TrackedSeq};
 

@@ -5,7 +5,7 @@ use Rattle.told.specs.Over.{filled}
 use Rattle.tracker.specs.declared.SequenceTracker.{SequenceTracker}
 use Rattle.offers.specs.Whole.{Table, whole, Left, Leaves}
 use Rattle.offers.specs.Offer.{offering}
-use Rattle.log.specs.Pairs.{pairs_log_of, extend_of}
+use Rattle.offer_log.specs.Pairs.{pairs_log_of, extend_of}
 use Rattle.gorilla.specs.Format.{image_bytes}
 use Rattle.gorilla.specs.Reading.{pairs_read}
 use Rattle.sheets.specs.Sheet.{sheet_rule, TsBack, SeqBack}

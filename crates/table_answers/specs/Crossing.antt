@@ -10,7 +10,7 @@ use Rattle.sheets.specs.Sheet.{sheet_rule}
 use Rattle.question_lists.specs.Each.{list_rule}
 use Rattle.offers.specs.Whole.{Table, whole, check_in}
 use Rattle.offers.specs.Offer.{offer_to}
-use Rattle.log.specs.Pairs.{pairs_log_of, extend_of}
+use Rattle.offer_log.specs.Pairs.{pairs_log_of, extend_of}
 use Rattle.saving.specs.Save.{save_of, save_strict_of}
 use Rattle.states.specs.State.{table_of, state_of, no_state}
 use Rattle.states.specs.declared.State.{State}

@@ -5,7 +5,7 @@ use Rattle.tracker.specs.declared.SequenceTracker.{SequenceTracker}
 use Rattle.offers.specs.Offer.{Outcome, recorded, went_back, too_soon, pair_refused}
 use Rattle.tallies.specs.Tally.{none_yet, counted}
 use Rattle.tallies.specs.declared.Tally.{Tally}
-use Rattle.log.specs.Log.{Log, done, stopped}
+use Rattle.offer_log.specs.Log.{Log, done, stopped}
 use Rattle.answers.specs.Answer.{answer_of}
 use Rattle.states.specs.State.{state_of, no_state}
 use Rattle.states.specs.declared.State.{State}

@@ -2,13 +2,13 @@
 ghost use Rattle.std.specs.Prelude.{◌≡◌};
 ghost use Rattle.tracker.specs.Refusal.{told_made};
 ghost use Rattle.offers.specs.Offer.{told_offer};
-ghost use Rattle.log.specs.Log.{told_log};
+ghost use Rattle.offer_log.specs.Log.{told_log};
 ghost use Rattle.restoring.specs.Restore.{told_restore};
 ghost use Rattle.table_answers.specs.Table.{of_table, of_offer, of_log};
 
 use crate::{TableAnswer, refusals, tables};
 use answers::inner::answer;
-use log::Logged;
+use offer_log::Logged;
 use offers::Offered;
 use restoring::Restored;
 use tallies::inner::of_one;

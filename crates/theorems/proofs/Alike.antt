@@ -30,7 +30,7 @@ use Rattle.question_lists.proofs.Alike as lists
 use Rattle.offers.specs.Whole.{Table, whole, check_in, leaving}
 use Rattle.offers.specs.Offer.{recorded, went_back, too_soon, pair_refused}
 use Rattle.offers.proofs.Alike.{Alike, same_count, same-capacity, kept-seqs, kept-secs, same_rooms}
-use Rattle.log.specs.Rest.{log_rest}
+use Rattle.offer_log.specs.Rest.{log_rest}
 use Rattle.theorems.specs.Alike.{KeptAlike, SameButTotals, ToldAlike, AskedByLookups, AnswerAlike, Room, RestAlone}
 use Rattle.theorems.proofs.Logged.{kept_same, KeptUp, offer-alike, log_alike, pairs-alike, extend-alike, extend-by-alike}
 

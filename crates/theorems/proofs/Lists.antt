@@ -14,9 +14,9 @@ use Rattle.offers.specs.Whole.{Table, check_in, Left, leaving}
 use Rattle.offers.specs.Offer.{Outcome, recorded, went_back, too_soon, pair_refused, offered_to}
 use Rattle.tallies.specs.declared.Tally.{Tally}
 use Rattle.tallies.specs.Tally.{none_yet, counted, total}
-use Rattle.log.specs.Log.{Log, done, stopped, unless, unless_stopped, run_of, log_of}
-use Rattle.log.specs.Pairs.{records_of, pairs_log_of, extend_of}
-use Rattle.log.specs.Inner.{tells, after_record, stopped_at}
+use Rattle.offer_log.specs.Log.{Log, done, stopped, unless, unless_stopped, run_of, log_of}
+use Rattle.offer_log.specs.Pairs.{records_of, pairs_log_of, extend_of}
+use Rattle.offer_log.specs.Inner.{tells, after_record, stopped_at}
 use Rattle.theorems.specs.Alike.{kept_in}
 use Rattle.theorems.specs.Run.{Event, ran_to, step, answers}
 use Rattle.theorems.specs.Lists.{offers_of, tally_in, tallied, tried_of, TellsState, refusal_in, refusals_in, TellsRefusal, OneByOne, ListsAreOffers}

@@ -23,11 +23,11 @@ use Rattle.offers.proofs.Alike.{Alike, alike-told}
 use Rattle.offers.proofs.Counted.{at_most_one}
 use Rattle.tallies.specs.declared.Tally.{Tally}
 use Rattle.tallies.specs.Tally.{none_yet, counted}
-use Rattle.log.specs.Log.{Log, done, stopped, unless, unless_stopped, run_of, log_of}
-use Rattle.log.specs.Rest.{log_rest}
-use Rattle.log.proofs.Records.{records-length, front_length}
-use Rattle.log.specs.Pairs.{records_of, pairs_log_of, extend_of}
-use Rattle.log.specs.Inner.{tells, after_record, stopped_at}
+use Rattle.offer_log.specs.Log.{Log, done, stopped, unless, unless_stopped, run_of, log_of}
+use Rattle.offer_log.specs.Rest.{log_rest}
+use Rattle.offer_log.proofs.Records.{records-length, front_length}
+use Rattle.offer_log.specs.Pairs.{records_of, pairs_log_of, extend_of}
+use Rattle.offer_log.specs.Inner.{tells, after_record, stopped_at}
 use Rattle.theorems.specs.Alike.{kept_in, ToldAlike}
 use Rattle.theorems.proofs.Sound.{offered-told, offered-alike}
 

@@ -22,9 +22,9 @@ use Rattle.question_lists.specs.Each.{FindsTsEach, FindsSeqEach}
 use Rattle.offers.specs.Whole.{Table, check_in, Left}
 use Rattle.offers.specs.Offer.{offering}
 use Rattle.offers.specs.Rest.{offer_rest}
-use Rattle.log.specs.Log.{log_of}
-use Rattle.log.specs.Pairs.{pairs_log_of, extend_of}
-use Rattle.log.specs.Rest.{log_rest}
+use Rattle.offer_log.specs.Log.{log_of}
+use Rattle.offer_log.specs.Pairs.{pairs_log_of, extend_of}
+use Rattle.offer_log.specs.Rest.{log_rest}
 use Rattle.saving.specs.Save.{save_strict_of, save_of, kept_image}
 
 -- the pairs that a table keeps

@@ -8,8 +8,8 @@ use Rattle.offers.specs.Whole.{Table, Left}
 use Rattle.offers.specs.Offer.{Outcome, recorded, went_back, too_soon, pair_refused}
 use Rattle.tallies.specs.declared.Tally.{Tally}
 use Rattle.tallies.specs.Tally.{none_yet, counted, total}
-use Rattle.log.specs.Log.{Log, done, stopped, log_of}
-use Rattle.log.specs.Pairs.{records_of, pairs_log_of, extend_of}
+use Rattle.offer_log.specs.Log.{Log, done, stopped, log_of}
+use Rattle.offer_log.specs.Pairs.{records_of, pairs_log_of, extend_of}
 use Rattle.theorems.specs.Alike.{kept_in}
 use Rattle.theorems.specs.Run.{Event, offered, ran_to, answers}
 

@@ -1,5 +1,5 @@
 // Records that change the standing table: T, O, G, X and R.
-use log::Logged;
+use offer_log::Logged;
 use offers::Offered;
 use restoring::Restored;
 use std::num::{wrapping_add_u64 as plus, wrapping_add_usize as after};

@@ -1,6 +1,6 @@
 use borrow.Author.Rules.{rules}
 use mathlib.Core.Path.{refl}
-use Rattle.log.specs.Log.{run_of}
+use Rattle.offer_log.specs.Log.{run_of}
 use Rattle.log_records.proofs.begin.Statement.{statement}
 use Rattle.log_records.proofs.begin.Tie as tie
 

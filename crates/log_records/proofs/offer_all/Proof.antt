@@ -56,31 +56,31 @@ use Rattle.tracker.specs.declared.TrackedSeq.{TrackedSeq}
 use Rattle.tracker.specs.declared.SequenceTracker.{SequenceTracker}
 use Rattle.offers.specs.Whole.{whole, Leaves}
 use Rattle.tallies.specs.Tally.{total}
-use Rattle.log.specs.Log.{told_log, log_of}
-use Rattle.log.specs.Inner.{told_progress, Begins, Steps}
-use Rattle.log.specs.declared.Logged.{Logged}
-use Rattle.log.specs.declared.inner.Progress.{Progress}
-use Rattle.log.proofs.Run.{no_record, Upto, begun, live, in_list, next, ended}
+use Rattle.offer_log.specs.Log.{told_log, log_of}
+use Rattle.offer_log.specs.Inner.{told_progress, Begins, Steps}
+use Rattle.offer_log.specs.declared.Logged.{Logged}
+use Rattle.offer_log.specs.declared.inner.Progress.{Progress}
+use Rattle.offer_log.proofs.Run.{no_record, Upto, begun, live, in_list, next, ended}
 use Rattle.log_records.proofs.Both.{OwnX, OwnZ, calls_both}
 use Rattle.log_records.proofs.Calls.{low_r, low_p, low_s, Bgn, Stp, begin_callee, step_callee}
 use Rattle.tracker.specs.contracts.TrackedSeq as T
 use Rattle.tracker.proofs.TrackedSeq.TheLaws as T'
 use Rattle.tracker.specs.contracts.SequenceTracker as S
 use Rattle.tracker.proofs.SequenceTracker.TheLaws as S'
-use Rattle.log.specs.contracts.Logged as E
-use Rattle.log.proofs.Logged.TheLaws as E'
-use Rattle.log.specs.contracts.inner.Progress as P
-use Rattle.log.proofs.inner.Progress.TheLaws as P'
+use Rattle.offer_log.specs.contracts.Logged as E
+use Rattle.offer_log.proofs.Logged.TheLaws as E'
+use Rattle.offer_log.specs.contracts.inner.Progress as P
+use Rattle.offer_log.proofs.inner.Progress.TheLaws as P'
 use Rattle.log_records.proofs.begin.Symbol as bgn-def
 use Rattle.log_records.proofs.begin.Symbol.{name as #log-records·begin}
 use Rattle.log_records.proofs.begin.Met as bgn-thm
-use Rattle.log.specs.contracts.inner.finish as fin
-use Rattle.log.proofs.inner.finish.Symbol as fin-def
-use Rattle.log.proofs.inner.finish.Symbol.{name as #log·finish}
-use Rattle.log.proofs.inner.finish.Met as fin-thm
-use Rattle.log.proofs.inner.step.Symbol as stp-def
-use Rattle.log.proofs.inner.step.Symbol.{name as #log·step}
-use Rattle.log.proofs.inner.step.Met as stp-thm
+use Rattle.offer_log.specs.contracts.inner.finish as fin
+use Rattle.offer_log.proofs.inner.finish.Symbol as fin-def
+use Rattle.offer_log.proofs.inner.finish.Symbol.{name as #log·finish}
+use Rattle.offer_log.proofs.inner.finish.Met as fin-thm
+use Rattle.offer_log.proofs.inner.step.Symbol as stp-def
+use Rattle.offer_log.proofs.inner.step.Symbol.{name as #log·step}
+use Rattle.offer_log.proofs.inner.step.Met as stp-thm
 use Rattle.log_records.specs.contracts.offer_all.Key.{name as #log-records·offer-all}
 use Rattle.log_records.specs.contracts.offer_all as offer-all
 use Rattle.log_records.proofs.offer_all.Statement as stated
@@ -382,5 +382,5 @@ offer-all_spec 𝓤 𝓛 𝓜 𝓡 =
     (tables 𝓤 𝓛.H 𝓜 𝓡 code.env).C (tables 𝓤 𝓛.H 𝓜 𝓡 code.env).Λ #log-records·offer-all code.function (code.unfolded 𝓤 𝓛.H 𝓜 𝓡)
     (offer-all_meets 𝓛 𝓜.mem 𝓡.run (tables_of 𝓤 𝓛.H 𝓜 (tables 𝓤 𝓛.H 𝓜 𝓡 code.env))
     (cited 𝓤 𝓛.H (Bgn 𝓛 𝓜.mem 𝓡.run) 𝓜 𝓡 code.env #log-records·begin bgn-def.routine code.calls-log-records::begin (bgn-thm.met 𝓤 𝓛 𝓜 𝓡))
-    (cited 𝓤 𝓛.H (Fin 𝓛 𝓜.mem 𝓡.run) 𝓜 𝓡 code.env #log·finish fin-def.routine code.calls-log::inner::finish (fin-thm.met 𝓤 𝓛 𝓜 𝓡))
-    (cited 𝓤 𝓛.H (Stp 𝓛 𝓜.mem 𝓡.run) 𝓜 𝓡 code.env #log·step stp-def.routine code.calls-log::inner::step (stp-thm.met 𝓤 𝓛 𝓜 𝓡)))
+    (cited 𝓤 𝓛.H (Fin 𝓛 𝓜.mem 𝓡.run) 𝓜 𝓡 code.env #log·finish fin-def.routine code.calls-offer_log::inner::finish (fin-thm.met 𝓤 𝓛 𝓜 𝓡))
+    (cited 𝓤 𝓛.H (Stp 𝓛 𝓜.mem 𝓡.run) 𝓜 𝓡 code.env #log·step stp-def.routine code.calls-offer_log::inner::step (stp-thm.met 𝓤 𝓛 𝓜 𝓡)))

@@ -4,11 +4,11 @@ use Prim.Native.Nat.{◌-◌, ◌<◌}
 use native.Mathlib.Omega.{arith}
 use lib.ListN.{length, take}
 use Rattle.offers.specs.Whole.{whole}
-use Rattle.log.specs.Pairs.{records_of}
+use Rattle.offer_log.specs.Pairs.{records_of}
 use Rattle.pair_walk.specs.Inner.{front_of}
-use Rattle.log.proofs.Run.{Upto, started_as, live, in_list, next, ended}
-use Rattle.log.proofs.Records.{front_length, front_at}
-use Rattle.log.specs.declared.inner.Progress.{Progress}
+use Rattle.offer_log.proofs.Run.{Upto, started_as, live, in_list, next, ended}
+use Rattle.offer_log.proofs.Records.{front_length, front_at}
+use Rattle.offer_log.specs.declared.inner.Progress.{Progress}
 use Rattle.pair_walk.proofs.inner.pairs_good.Statement.{statement}
 use Rattle.pair_walk.proofs.inner.pairs_good.Tie as tie
 

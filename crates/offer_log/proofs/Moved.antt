@@ -14,9 +14,9 @@ use Rattle.offers.specs.declared.inner.Came.TheVariants.{Recorded, WentBack, Too
 use Rattle.told.specs.Told.{Told, gave}
 use Rattle.tallies.specs.Tally.{counted, total}
 use Rattle.tallies.specs.declared.Tally.{Tally}
-use Rattle.log.specs.Log.{done, unless_stopped, run_of}
-use Rattle.log.specs.Inner.{stopped_at, left_by, standing, end_of, going_of, stopped_of, Steps}
-use Rattle.log.specs.declared.inner.Progress.{Progress}
+use Rattle.offer_log.specs.Log.{done, unless_stopped, run_of}
+use Rattle.offer_log.specs.Inner.{stopped_at, left_by, standing, end_of, going_of, stopped_of, Steps}
+use Rattle.offer_log.specs.declared.inner.Progress.{Progress}
 
 -- the progress after what came of an offer, with this tally and this state
 abbrev pub moved : Progress → Tally → SequenceTracker → Came → Progress

@@ -3,8 +3,8 @@ ghost use Rattle.std.specs.Prelude.{◌≡◌, ◌+◌, ◌<◌, ◌^◌};
 ghost use Rattle.told.specs.Told.{gave};
 ghost use Rattle.tracker.specs.Table.{check_of};
 ghost use Rattle.tallies.specs.Tally.{total};
-ghost use Rattle.log.specs.Log.{told_log};
-ghost use Rattle.log.specs.Inner.{told_progress, going_of, stopped_of, Steps};
+ghost use Rattle.offer_log.specs.Log.{told_log};
+ghost use Rattle.offer_log.specs.Inner.{told_progress, going_of, stopped_of, Steps};
 
 use crate::Logged;
 use offers::inner as offer;

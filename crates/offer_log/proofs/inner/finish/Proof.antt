@@ -1,6 +1,6 @@
 use borrow.Author.Rules.{rules}
-use Rattle.log.proofs.inner.finish.Statement.{statement}
-use Rattle.log.proofs.inner.finish.Tie as tie
+use Rattle.offer_log.proofs.inner.finish.Statement.{statement}
+use Rattle.offer_log.proofs.inner.finish.Tie as tie
 
 enum_told : tie.Need-enum-told
 enum_told c = search rules

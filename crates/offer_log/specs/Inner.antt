@@ -10,10 +10,10 @@ use Rattle.offers.specs.Whole.{Table, whole, Left, leaving}
 use Rattle.offers.specs.Offer.{Outcome, offer_to, offered_to}
 use Rattle.tallies.specs.Tally.{total}
 use Rattle.tallies.specs.declared.Tally.{Tally}
-use Rattle.log.specs.Log.{Log, done, stopped, run_of, log_of}
-use Rattle.log.specs.declared.inner.Phase.{Phase}
-use Rattle.log.specs.declared.inner.Phase.TheVariants.{Going, Bad, Stopped}
-use Rattle.log.specs.declared.inner.Progress.{Progress}
+use Rattle.offer_log.specs.Log.{Log, done, stopped, run_of, log_of}
+use Rattle.offer_log.specs.declared.inner.Phase.{Phase}
+use Rattle.offer_log.specs.declared.inner.Phase.TheVariants.{Going, Bad, Stopped}
+use Rattle.offer_log.specs.declared.inner.Progress.{Progress}
 
 -- what a record's offer tells, and the table after it
 abbrev pub tells : Table → TrackedSeq → Told Outcome

@@ -20,9 +20,9 @@ use Rattle.offers.proofs.Counted.{reached, counts_so, sum-after}
 use Rattle.offers.proofs.Preserved.{stays_good}
 use Rattle.tallies.specs.Tally.{counted, total}
 use Rattle.tallies.specs.declared.Tally.{Tally}
-use Rattle.log.specs.Log.{Log, unless_stopped, run_of}
-use Rattle.log.specs.Inner.{tells, after_record, stopped_at}
-use Rattle.log.specs.Laws.{AddsUp}
+use Rattle.offer_log.specs.Log.{Log, unless_stopped, run_of}
+use Rattle.offer_log.specs.Inner.{tells, after_record, stopped_at}
+use Rattle.offer_log.specs.Laws.{AddsUp}
 
 -- what holds of both ways holds of the one that is taken
 either_way : {B : Type 0} (P : B → Type 0) (o : Told Outcome) (stop : List ℕ → B) (next : B) → ((what : List ℕ) → P (stop what)) → P next → P (unless_stopped o stop next)

@@ -5,7 +5,7 @@ use Rattle.tracker.specs.Table.{kept}
 use Rattle.tracker.specs.declared.TrackedSeq.{TrackedSeq}
 use Rattle.offers.specs.Whole.{Table, check_in, Left, leaving}
 use Rattle.tallies.specs.Tally.{none_yet}
-use Rattle.log.specs.Log.{Log, unless, run_of, log_of}
+use Rattle.offer_log.specs.Log.{Log, unless, run_of, log_of}
 
 -- a sequence and a second as a record
 abbrev pub pair_of : ℕ → ℤ → TrackedSeq

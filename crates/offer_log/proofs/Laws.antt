@@ -20,11 +20,11 @@ use Rattle.tracker.proofs.Good.{fine, count-seqs, count-secs}
 use Rattle.totals.specs.Totals.{sum_of}
 use Rattle.offers.specs.Whole.{Table, check_in, leaving}
 use Rattle.tallies.specs.Tally.{none_yet}
-use Rattle.log.specs.Log.{unless, run_of, log_of}
-use Rattle.log.specs.Pairs.{records_of, pairs_log_of, extend_of}
-use Rattle.log.specs.Laws.{ByAny, ByDrop, AddsUp, TalliesAddUp, GoodAfter}
-use Rattle.log.proofs.Preserved.{Stops, At, run_good, run_adds_up}
-use Rattle.log.proofs.Records.{records-length, front_length}
+use Rattle.offer_log.specs.Log.{unless, run_of, log_of}
+use Rattle.offer_log.specs.Pairs.{records_of, pairs_log_of, extend_of}
+use Rattle.offer_log.specs.Laws.{ByAny, ByDrop, AddsUp, TalliesAddUp, GoodAfter}
+use Rattle.offer_log.proofs.Preserved.{Stops, At, run_good, run_adds_up}
+use Rattle.offer_log.proofs.Records.{records-length, front_length}
 
 -- any record may be out of domain
 any : (rs : List TrackedSeq) → Stops ByAny rs

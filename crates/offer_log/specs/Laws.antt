@@ -5,8 +5,8 @@ use Rattle.tracker.specs.declared.TrackedSeq.{TrackedSeq}
 use Rattle.totals.specs.Totals.{sum_of, most}
 use Rattle.offers.specs.Whole.{Table, check_in}
 use Rattle.tallies.specs.Tally.{total}
-use Rattle.log.specs.Log.{Log, done, stopped, log_of}
-use Rattle.log.specs.Pairs.{pairs_log_of, extend_of}
+use Rattle.offer_log.specs.Log.{Log, done, stopped, log_of}
+use Rattle.offer_log.specs.Pairs.{pairs_log_of, extend_of}
 
 -- 16 or 17; 17 alone, of records whose seconds are in the domain, as those of a good table are
 abbrev pub ByAny : ℕ → Type 0

@@ -13,9 +13,9 @@ use Rattle.tracker.specs.declared.Refusal.TheVariants.{Disagrees, SequenceDrops,
 use Rattle.tracker.proofs.Unique.{undone, refusal_of}
 use Rattle.offers.specs.Whole.{Left, Leaves}
 use Rattle.offers.proofs.Unique.{one_left}
-use Rattle.log.specs.Log.{Log, done, stopped, told_log}
-use Rattle.log.specs.declared.Logged.{Logged}
-use Rattle.log.specs.declared.Logged.TheVariants.{Done, Stopped, Refused, OwnRefused, OtherRefused, LengthsDiffer}
+use Rattle.offer_log.specs.Log.{Log, done, stopped, told_log}
+use Rattle.offer_log.specs.declared.Logged.{Logged}
+use Rattle.offer_log.specs.declared.Logged.TheVariants.{Done, Stopped, Refused, OwnRefused, OtherRefused, LengthsDiffer}
 
 -- what is told last
 abbrev last_told : List ℕ → ℕ

@@ -17,12 +17,12 @@ use Rattle.offers.specs.Offer.{Outcome, recorded, went_back, too_soon, pair_refu
 use Rattle.offers.proofs.Preserved.{stays_good}
 use Rattle.tallies.specs.Tally.{none_yet, counted, total}
 use Rattle.tallies.specs.declared.Tally.{Tally}
-use Rattle.log.specs.Log.{Log, done, stopped, unless, unless_stopped, run_of, log_of}
-use Rattle.log.specs.Pairs.{pair_of}
-use Rattle.log.specs.Inner.{tells, stopped_at, told_in, told_progress, left_by, standing, end_of, going_of, Begins, Steps}
-use Rattle.log.specs.declared.inner.Phase.{Phase}
-use Rattle.log.specs.declared.inner.Phase.TheVariants.{Going, Bad, Stopped}
-use Rattle.log.specs.declared.inner.Progress.{Progress}
+use Rattle.offer_log.specs.Log.{Log, done, stopped, unless, unless_stopped, run_of, log_of}
+use Rattle.offer_log.specs.Pairs.{pair_of}
+use Rattle.offer_log.specs.Inner.{tells, stopped_at, told_in, told_progress, left_by, standing, end_of, going_of, Begins, Steps}
+use Rattle.offer_log.specs.declared.inner.Phase.{Phase}
+use Rattle.offer_log.specs.declared.inner.Phase.TheVariants.{Going, Bad, Stopped}
+use Rattle.offer_log.specs.declared.inner.Progress.{Progress}
 
 -- what stands past a list's end
 abbrev pub no_record : TrackedSeq

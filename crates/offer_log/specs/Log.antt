@@ -8,8 +8,8 @@ use Rattle.offers.specs.Whole.{Table, check_in, Left, leaving}
 use Rattle.offers.specs.Offer.{Outcome, recorded, went_back, too_soon, pair_refused, offer_to, offered_to}
 use Rattle.tallies.specs.Tally.{none_yet, counted}
 use Rattle.tallies.specs.declared.Tally.{Tally}
-use Rattle.log.specs.declared.Logged.{Logged}
-use Rattle.log.specs.declared.Logged.TheVariants.{Done, Stopped, Refused, OwnRefused, OtherRefused, LengthsDiffer}
+use Rattle.offer_log.specs.declared.Logged.{Logged}
+use Rattle.offer_log.specs.declared.Logged.TheVariants.{Done, Stopped, Refused, OwnRefused, OtherRefused, LengthsDiffer}
 
 -- what comes of a log on a good table: all records offered, or stopped at one, with the refusal's number and the refused position;
 -- with each the state that the offers left, and how many were recorded, went back and came too soon

@@ -1,6 +1,6 @@
 use borrow.Author.Rules.{rules}
-use Rattle.log.proofs.inner.stopped.Statement.{statement}
-use Rattle.log.proofs.inner.stopped.Tie as tie
+use Rattle.offer_log.proofs.inner.stopped.Statement.{statement}
+use Rattle.offer_log.proofs.inner.stopped.Tie as tie
 
 total_requires : tie.Need-total-requires
 total_requires c κs = search rules

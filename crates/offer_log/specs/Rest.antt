@@ -1,7 +1,7 @@
 -- What a log tells, but for the totals.
 use Rattle.told.specs.Told.{Told, gave, refused}
 use Rattle.tracker.specs.Rest.{rest_of}
-use Rattle.log.specs.Log.{Log, done, stopped}
+use Rattle.offer_log.specs.Log.{Log, done, stopped}
 
 -- all of it but the totals: with these at zero in the state
 abbrev pub log_rest : Told Log → Told Log

@@ -1,9 +1,9 @@
 use borrow.Author.Rules.{rules}
 use native.Mathlib.Omega.{arith}
 use Rattle.offers.proofs.Counted.{room_for}
-use Rattle.log.proofs.Moved.{stepped}
-use Rattle.log.proofs.inner.step.Statement.{statement}
-use Rattle.log.proofs.inner.step.Tie as tie
+use Rattle.offer_log.proofs.Moved.{stepped}
+use Rattle.offer_log.proofs.inner.step.Statement.{statement}
+use Rattle.offer_log.proofs.inner.step.Tie as tie
 
 offer-good_requires : tie.Need-offer-good-requires
 offer-good_requires c κs = search rules

@@ -7,8 +7,8 @@ use native.Mathlib.Omega.{arith}
 use lib.IntN.{ℤ, pos}
 use lib.ListN.{length, get_or, take}
 use lib.Seq.{get_or-take, length-take-le}
-use Rattle.log.specs.Pairs.{pair_of, records_of}
-use Rattle.log.proofs.Run.{no_record}
+use Rattle.offer_log.specs.Pairs.{pair_of, records_of}
+use Rattle.offer_log.proofs.Run.{no_record}
 
 pub records-length : (n : ℕ) (seqs : List ℕ) (secs : List ℤ) → length seqs ≡ n → length secs ≡ n → length (records_of seqs secs) ≡ n
 unfolding records_of
