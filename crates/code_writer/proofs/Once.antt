@@ -16,6 +16,7 @@ use Rattle.bit_lists.specs.BitList.{nat_bits, nat_from}
 use Rattle.gorilla.specs.Format.{code_bits}
 use Rattle.bit_lists.proofs.Lists.{length-nat_bits}
 use Rattle.gorilla.proofs.Trip.{rows}
+use Rattle.gorilla.proofs.Putting.{narrow}
 use Rattle.bit_lists.proofs.Packing.{nat_from_lem, from_nat, from-append, bits_append, bits_nat_bits}
 use Rattle.code_writer.specs.declared.Held.{Held}
 use Rattle.code_writer.specs.Inner.{held_bits, Fits}
@@ -31,12 +32,18 @@ nat_join n w p x h k =
 Small : Row → Type 0
 Small r = (r.prefix < 2 ^ r.prefix_bits) × (r.prefix < 16) × (1 ≤ r.prefix_bits)
 
-pub small : (d : ℤ) → ((row_of d).prefix < 2 ^ (row_of d).prefix_bits) × ((row_of d).prefix < 16) × (1 ≤ (row_of d).prefix_bits)
+small : (d : ℤ) → Small (row_of d)
 unfolding Small
 small = rows Small (omega arith, omega arith, omega arith) (omega arith, omega arith, omega arith) (omega arith, omega arith, omega arith) (omega arith, omega arith, omega arith) (omega arith, omega arith, omega arith)
 
-pub low_lt : (w : ℕ) (d : ℤ) → low_bits w d < 2 ^ w
-low_lt w d = mod-lt _ (pow_pos w)
+-- ---- the row of a difference, and the low bits of it that the row asks for
+module _ (d : ℤ) (r : Row) (e : r ≡ row_of d) where
+  pub row_sizes : (r.prefix < 2 ^ r.prefix_bits) × (r.prefix_bits ≤ 4) × (r.width ≤ 32)
+  unfolding Small
+  row_sizes = subst (λ (y : Row). (y.prefix < 2 ^ y.prefix_bits) × (y.prefix_bits ≤ 4) × (y.width ≤ 32)) (sym e) ((small d).0, (narrow d).0, (narrow d).1)
+
+  pub low_lt : (x : ℕ) → x ≡ low_bits r.width d → x < 2 ^ r.width
+  low_lt x f = rw f (mod-lt _ (pow_pos r.width))
 
 -- ---- bits that are joined
 module _ (a b h : Held) (f : Fits a) (g : Fits b) (e : h ≡ record { value = a.value * 2 ^ b.width + b.value; width = a.width + b.width }) where
@@ -53,10 +60,10 @@ low_same w x =
     ap₂ nat_bits (sym (length-nat_bits w x)) (sym v) ∙ nat_from_lem 0 (nat_bits w x) (bits_nat_bits w x)
 
 -- prefix and low bits of a row
-pub code_joined : (d : ℤ) (r : Row) (x : ℕ) → r ≡ row_of d → x ≡ low_bits (row_of d).width d → nat_bits r.prefix_bits r.prefix ++ nat_bits r.width x ≡ code_bits d
+pub code_joined : (d : ℤ) (r : Row) (x : ℕ) → r ≡ row_of d → x ≡ low_bits r.width d → nat_bits r.prefix_bits r.prefix ++ nat_bits r.width x ≡ code_bits d
 unfolding code_bits
 code_joined d r x e f =
-    ap₂ (λ (y : Row) (m : ℕ). nat_bits y.prefix_bits y.prefix ++ nat_bits y.width m) e f
+    ap₂ (λ (y : Row) (m : ℕ). nat_bits y.prefix_bits y.prefix ++ nat_bits y.width m) e (f ∙ ap (λ (y : Row). low_bits y.width d) e)
     ∙ ap (λ (bits : List ℕ). nat_bits (row_of d).prefix_bits (row_of d).prefix ++ bits) (low_same (row_of d).width (pattern d))
 
 -- the first row: one zero bit
