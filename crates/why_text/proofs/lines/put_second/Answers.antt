@@ -1,0 +1,28 @@
+use native.Mathlib.Omega.{arith}
+use mir.Facts.{to_z-of_z}
+use Rattle.text.proofs.Putting.{then, next}
+use Rattle.text.proofs.Numbers.{signed-length}
+use Rattle.why_text.proofs.Lengths.{reason-length}
+use Rattle.why_text.proofs.lines.put_second.Goals as goal
+
+pub put_byte-b-requires : goal.put_byte-b-requires
+put_byte-b-requires c =
+    let r1 = next 64 64 c.put_reason-a.ensures (reason-length c.args.reason) c.requires in
+    omega (arith, r1)
+
+pub put_signed-c-requires : goal.put_signed-c-requires
+put_signed-c-requires c =
+    let r1 = next 64 64 c.put_reason-a.ensures (reason-length c.args.reason) c.requires in
+    let r2 = next 1 63 c.put_byte-b.ensures (omega arith) r1 in
+    omega (arith, r2)
+
+pub put_byte-requires : goal.put_byte-requires
+put_byte-requires c =
+    let r1 = next 64 64 c.put_reason-a.ensures (reason-length c.args.reason) c.requires in
+    let r2 = next 1 63 c.put_byte-b.ensures (omega arith) r1 in
+    let r3 = next 21 42 c.put_signed-c.ensures (signed-length _) r2 in
+    omega (arith, r3)
+
+pub returns : goal.returns
+returns c =
+    then (then (then c.put_reason-a.ensures c.put_byte-b.ensures) (rw (to_z-of_z c.ranges.s) at c.put_signed-c.ensures)) c.put_byte.ensures
