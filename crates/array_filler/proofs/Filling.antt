@@ -1,5 +1,5 @@
 -- Values stored one after the other. Assumes nothing.
-use Prim.Native.Nat.{ℕ, suc, ◌+◌, ◌-◌, ◌*◌, ◌≤◌}
+use Prim.Native.Nat.{ℕ, suc, ◌+◌, ◌-◌, ◌*◌, ◌≤◌, ◌<◌}
 use mathlib.Core.Path.{◌≡◌, refl, sym, ap, ◌∙◌}
 use mathlib.Core.Bool.{true}
 use mathlib.Core.List.{List, [], ◌∷◌, ◌++◌, map}
@@ -69,6 +69,10 @@ first-there all a i k bs h = go (read_code all a i bs) h
     go : (c : Read ℤ) → is_read (and_then c (λ d r. and_then (read_codes all a k (i + 1) r) (λ ds cs. read (d ∷ ds) cs))) ≡ true → is_read c ≡ true
     go (read d r) g = refl
     go (refused l) g = g
+
+-- the codes that are left from index i on, where one at least is left
+pub there_left : (all a n i : ℕ) (bs : List ℕ) → i < n → is_read (read_codes all a (n - i) i bs) ≡ true → is_read (read_codes all a (suc (n - (i + 1))) i bs) ≡ true
+there_left all a n i bs l h = let e : suc (n - (i + 1)) ≡ n - i = omega arith in ap (λ (k : ℕ). is_read (read_codes all a k i bs)) e ∙ h
 
 -- what is there is not refused
 pub there_not : {X : Type 0} (r : Read ℤ) {l : List ℕ} → refused l ≡ r → is_read r ≡ true → X

@@ -7,6 +7,7 @@ use Rattle.bits.specs.Inner.{bits_from}
 use Rattle.gorilla.specs.Reading.{read_codes}
 use Rattle.array_reader.proofs.scan.scan.Given as goal
 
+-- what is read from the start is what is read from here on
 abbrev pub invariant-loop-i : goal.invariant-loop-i
 invariant-loop-i l =
     (1 ≤ l.i) × (shape (read_codes (length l.s * 8) (array_no l.array) (l.count - l.i) l.i (bits_from l.s l.p)) ≡ shape (read_codes (length l.s * 8) (array_no l.array) (l.count - 1) 1 (bits_from l.s l.initial.p)))
