@@ -4,4 +4,3 @@ pub mod Preserved
 pub mod Records
 pub mod Laws
 pub mod Unique
-mod Moved

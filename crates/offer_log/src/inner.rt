@@ -56,6 +56,7 @@ fn stopped(table: SequenceTracker, tally: Tally, why: Refusal) -> Progress
 }
 
 // One record.
+#[tactic(auto, unfolding(crate::specs::Log::run_of))]
 pub fn step(seqs: &mut [u64], secs: &mut [i64], p: Progress, pair: TrackedSeq) -> Progress
     requires { (check_of p.table seqs.old secs.old ≡ gave tt) × (total p.tally + 1 < 2 ^ 64) }
     ensures { Steps p seqs.old secs.old pair result seqs.new secs.new }
