@@ -6,7 +6,7 @@ pub loop-i-init : goal.loop-i-init
 loop-i-init c = partly_none _ _ _ c.requires.1
 
 pub overflow_add-at : goal.overflow_add-at
-overflow_add-at c = let l = c.loop-i in omega (arith, l.invariant.inside)
+overflow_add-at c = omega (arith, c.loop-i.invariant.inside)
 
 pub returns-then-d-gt9 : goal.returns-then-d-gt9
 returns-then-d-gt9 c = partly_missing _ _ _ _ _ _ c.loop-i.invariant c.loop-i-test.true c.digit_at-d.ensures c.if-d-gt9.true
@@ -21,4 +21,4 @@ pub loop-i-preserved : goal.loop-i-preserved
 loop-i-preserved c = partly_more _ _ _ _ _ _ c.loop-i.invariant c.loop-i-test.true c.digit_at-d.ensures c.if-d-gt9.false
 
 pub returns : goal.returns
-returns c = let l = c.loop-i in partly_all _ _ _ _ _ l.invariant c.requires.0 c.loop-i-test.false
+returns c = partly_all _ _ _ _ _ c.loop-i.invariant c.requires.0 c.loop-i-test.false

@@ -12,10 +12,10 @@ pub returns-then-not-fits_with : goal.returns-then-not-fits_with
 returns-then-not-fits_with c = grown_over _ _ (not-false _ c.if-not-n.false) _ (sym c.fits_with.ensures ∙ c.if-not-fits_with.true)
 
 pub overflow_mul-result : goal.overflow_mul-result
-overflow_mul-result c = let a = c.args in let h : a.n.value * 10 + a.d < 2 ^ 64 = ltb-true _ _ (sym c.fits_with.ensures ∙ c.if-not-fits_with.false) in record { fits = omega (arith, h) }
+overflow_mul-result c = let h : c.args.n.value * 10 + c.args.d < 2 ^ 64 = ltb-true _ _ (sym c.fits_with.ensures ∙ c.if-not-fits_with.false) in record { fits = omega (arith, h) }
 
 pub overflow_add-result : goal.overflow_add-result
-overflow_add-result c = let a = c.args in let h : a.n.value * 10 + a.d < 2 ^ 64 = ltb-true _ _ (sym c.fits_with.ensures ∙ c.if-not-fits_with.false) in record { fits = omega (arith, h) }
+overflow_add-result c = let h : c.args.n.value * 10 + c.args.d < 2 ^ 64 = ltb-true _ _ (sym c.fits_with.ensures ∙ c.if-not-fits_with.false) in record { fits = omega (arith, h) }
 
 pub returns : goal.returns
 returns c = grown_more _ _ (not-false _ c.if-not-n.false) (sym c.fits_with.ensures ∙ c.if-not-fits_with.false)

@@ -6,7 +6,7 @@ pub loop-i-init : goal.loop-i-init
 loop-i-init c = matched_none _ _ _ c.requires
 
 pub overflow_add-at : goal.overflow_add-at
-overflow_add-at c = let l = c.loop-i in omega (arith, l.invariant.inside)
+overflow_add-at c = omega (arith, c.loop-i.invariant.inside)
 
 pub returns-then-not-is_at : goal.returns-then-not-is_at
 returns-then-not-is_at c = matched_missing _ _ _ _ c.loop-i.invariant c.loop-i-test.true _ c.is_at.ensures c.if-not-is_at.true
