@@ -4,11 +4,8 @@ use lib.IntN.{pos}
 use lib.ListN.{get_or}
 use mir.Facts.{to_z-of_z}
 use Rattle.order.proofs.Order.{int_order, round}
-use Rattle.search.proofs.Bound.{start, up, down, finish}
+use Rattle.search.proofs.Bound.{up, down, finish}
 use Rattle.search.proofs.inner.secs.by_halves.Goals as goal
-
-pub loop-lo-init : goal.loop-lo-init
-loop-lo-init c = start _ _ _ _ _
 
 pub loop-lo-preserved-then-secs-mid : goal.loop-lo-preserved-then-secs-mid
 loop-lo-preserved-then-secs-mid c =
