@@ -1,7 +1,7 @@
 #![tactic(auto)]
 
-fn main() {
+fn main(rt: HostRuntime) {
     let mut input = [0u8; listing_io::INPUT_ROOM];
     let mut text = [0u8; report::TEXT_ROOM];
-    listing_io::run(&mut input, &mut text);
+    listing_io::run(&rt, &mut input, &mut text);
 }
