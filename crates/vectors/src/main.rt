@@ -5,32 +5,35 @@ mod records; // records.rt: one record of any kind
 mod stored; // stored.rt: the input, one record after the other
 mod verdict; // verdict.rt: what is printed
 
+use running::inner::report;
 use vector_bytes::part;
 use vector_tally as tally;
 
-fn main() {
+fn main(rt: HostRuntime) {
     let mut bytes = [0u8; stored::ROOM];
     let mut seqs = [0u64; 8192];
     let mut secs = [0i64; 8192];
     let mut tally = [0u64; tally::PLACES];
-    run(&mut bytes, &mut seqs, &mut secs, &mut tally);
+    run(&rt, &mut bytes, &mut seqs, &mut secs, &mut tally);
 }
 
 // Replays standard input and prints what came of it. A read that fails is reported on standard error, and nothing is printed; a write that
 // fails is reported there too.
 fn run(
+    rt: &(impl Input + Print + Eprint),
     bytes: &mut [u8; stored::ROOM],
     seqs: &mut [u64],
     secs: &mut [i64],
     tally: &mut [u64; tally::PLACES],
 ) {
-    let over = input::read_all(bytes);
-    if input::failed(over) {
-        os::fail(b"vectors: standard input");
+    let mut failure = None;
+    let over = input::read_all(&mut rt.reader(), bytes, &mut failure);
+    if let Some(why) = failure {
+        report(rt, b"vectors: standard input", why);
         return;
     }
     let replayed = stored::replay_all(part(bytes, 0, input::bytes(over)), seqs, secs, tally);
-    if !verdict::print(replayed, tally) {
-        os::fail(b"vectors: standard output");
+    if let Err(why) = verdict::print(rt, replayed, tally) {
+        report(rt, b"vectors: standard output", why);
     }
 }
