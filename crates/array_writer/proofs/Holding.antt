@@ -40,13 +40,6 @@ hold_first xs s p x h l e = record {
 }
 
 module _ {xs : List ℤ} {s : List ℕ} {q : ℕ} {buf : List ℕ} {p : Place} {h : Held} {t : Track} {i : ℕ} (w : Holding xs s q buf p h t i) where
-  pub hold_same : length buf ≡ length s
-  hold_same = sym (length-put_list buf (bit_of p) (held_bits h)) ∙ w.done.same
-
-  -- the held bits find room
-  pub hold_room : q + length (codes_of xs) ≤ length s * 8 → bit_of p + h.width ≤ length buf * 8
-  hold_room r = omega (arith, w.done.rest, hold_same, r)
-
   -- the codes that are next, up to index j: g are their bits
   module _ (g : Held) (k : Fits g) {j : ℕ} {u : Track} (l : Leads xs i t (held_bits g) j u) where
     -- held with the others
