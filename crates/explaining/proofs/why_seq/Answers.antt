@@ -1,11 +1,10 @@
-use native.Mathlib.Omega.{arith}
 use mathlib.Core.Path.{◌≡◌, sym, ◌∙◌, ap}
 use lib.IntN.{pos}
 use lib.Signed.{lt_z}
 use Rattle.told.specs.Told.{gave}
 use Rattle.tracker.specs.Refusal.{told_check}
 use Rattle.tracker.specs.Table.{check_of}
-use Rattle.tracker.proofs.Good.{Fine, fine, count-seqs, count-secs}
+use Rattle.tracker.proofs.Good.{Fine, fine, count-secs}
 use Rattle.order.proofs.Order.{int_order}
 use Rattle.lookup.specs.Find.{place, seq_at}
 use Rattle.explaining.specs.Inner.{answering}
@@ -32,12 +31,6 @@ there c good =
     let a = c.args in
     c.answering-at.ensures ∙ ap (λ r. answering r a.table.count) c.reason-reason.ensures ∙ answering-place lt_z int_order (pos 0) a.secs.now a.table.count a.ts.0 good.pairs.secs_rise a.find_opt
 
-pub offset_bounds-seqs-at : goal.offset_bounds-seqs-at
-offset_bounds-seqs-at c = omega (arith, count-seqs _ _ _ (ok (goal.at.offset_bounds-seqs-at c).In-Good).state)
-
-pub bounds-seqs-at : goal.bounds-seqs-at
-bounds-seqs-at c = omega (arith, count-seqs _ _ _ (ok (goal.at.bounds-seqs-at c).In-Good).state)
-
 pub returns-then-at-n : goal.returns-then-at-n
 returns-then-at-n c =
     let a = c.args in
@@ -47,6 +40,3 @@ pub returns-else-at-n : goal.returns-else-at-n
 returns-else-at-n c =
     let a = c.args in
     told-nothing (check_of a.table a.seqs.now a.secs.now) (is_good (goal.at.returns-else-at-n c).In-Good) (seq_at a.seqs.now) a.table.count _ c.answering-at.result (there (goal.at.returns-else-at-n c).After-answering-at (ok (goal.at.returns-else-at-n c).In-Good)) _ c.reason-reason.result c.reason-reason.ensures c.if-at-n.false
-
-pub returns-in-Refused : goal.returns-in-Refused
-returns-in-Refused c = rw (← c.check-checked.ensures, c.in-Refused.is)

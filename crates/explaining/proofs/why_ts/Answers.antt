@@ -6,7 +6,7 @@ use lib.ListN.{get_or}
 use Rattle.told.specs.Told.{gave}
 use Rattle.tracker.specs.Refusal.{told_check}
 use Rattle.tracker.specs.Table.{check_of}
-use Rattle.tracker.proofs.Good.{Fine, fine, count-seqs, count-secs}
+use Rattle.tracker.proofs.Good.{Fine, fine, count-seqs}
 use Rattle.order.proofs.Order.{nat_order, round}
 use Rattle.lookup.specs.Find.{place, second_at}
 use Rattle.explaining.specs.Inner.{answering}
@@ -33,12 +33,6 @@ there c good =
     let a = c.args in
     c.answering-at.ensures ∙ ap (λ r. answering r a.table.count) c.reason-reason.ensures ∙ answering-place ltb nat_order 0 a.seqs.now a.table.count a.seq.0 good.pairs.seqs_rise a.find_opt
 
-pub offset_bounds-secs-at : goal.offset_bounds-secs-at
-offset_bounds-secs-at c = omega (arith, count-secs _ _ _ (ok (goal.at.offset_bounds-secs-at c).In-Good).state)
-
-pub bounds-secs-at : goal.bounds-secs-at
-bounds-secs-at c = omega (arith, count-secs _ _ _ (ok (goal.at.bounds-secs-at c).In-Good).state)
-
 pub returns-then-at-n : goal.returns-then-at-n
 returns-then-at-n c =
     let a = c.args in
@@ -49,6 +43,3 @@ pub returns-else-at-n : goal.returns-else-at-n
 returns-else-at-n c =
     let a = c.args in
     told-nothing (check_of a.table a.seqs.now a.secs.now) (is_good (goal.at.returns-else-at-n c).In-Good) (second_at a.secs.now) a.table.count _ c.answering-at.result (there (goal.at.returns-else-at-n c).After-answering-at (ok (goal.at.returns-else-at-n c).In-Good)) _ c.reason-reason.result c.reason-reason.ensures c.if-at-n.false
-
-pub returns-in-Refused : goal.returns-in-Refused
-returns-in-Refused c = rw (← c.check-checked.ensures, c.in-Refused.is)

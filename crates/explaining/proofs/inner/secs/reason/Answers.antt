@@ -1,5 +1,4 @@
 use borrow.Author.Rules.{rules}
-use borrow.Author.Tests.{eq-eqb}
 use native.Mathlib.Nat.{pos_of_ne-zero}
 use native.Mathlib.Omega.{arith}
 use mathlib.Core.Path.{◌≡◌, sym, ◌∙◌, ap}
@@ -20,9 +19,6 @@ use Rattle.explaining.specs.declared.Reason.TheVariants.{Exact}
 use Rattle.explaining.proofs.Parts.{equal-reason, parts-reason, parts-past, parts-there, equal-there}
 use Rattle.explaining.proofs.inner.secs.reason.Goals as goal
 use Rattle.explaining.proofs.inner.secs.reason.Goals.{After-first_not_below-p}
-
-pub returns-then-n-eq0 : goal.returns-then-n-eq0
-returns-then-n-eq0 c = rw (eq-eqb _ _ c.if-n-eq0.true)
 
 -- the second asked for is held as bits
 first_found : (c : After-first_not_below-p)

@@ -1,4 +1,4 @@
-use borrow.Author.Tests.{lt-ltb, le-ltb, eq-eqb}
+use borrow.Author.Tests.{lt-ltb, le-ltb}
 use native.Mathlib.Nat.{pos_of_ne-zero}
 use native.Mathlib.Omega.{arith}
 use mathlib.Core.Path.{◌≡◌, sym, ◌∙◌, ap}
@@ -15,9 +15,6 @@ use Rattle.explaining.specs.declared.Reason.TheVariants.{Exact}
 use Rattle.explaining.proofs.Parts.{equal-reason, parts-reason, parts-past, parts-there, equal-there}
 use Rattle.explaining.proofs.inner.seqs.reason.Goals as goal
 use Rattle.explaining.proofs.inner.seqs.reason.Goals.{After-first_not_below-p, Else-p-n}
-
-pub returns-then-n-eq0 : goal.returns-then-n-eq0
-returns-then-n-eq0 c = rw (eq-eqb _ _ c.if-n-eq0.true)
 
 -- where the keys part at the position found, the reason is the one beside it
 parted : (c : After-first_not_below-p)
