@@ -11,6 +11,7 @@ use tallies::inner::none_yet;
 use tracker::{Checked, SequenceTracker, TrackedSeq, check};
 
 // A log of n records before the first: a bad table is refused here.
+#[tactic(auto, unfolding(offer_log::specs::Log::run_of))]
 fn begin(seqs: &mut [u64], secs: &mut [i64], table: SequenceTracker, n: usize) -> Progress
     ensures { Begins (whole table seqs.old secs.old) n result seqs.new secs.new }
 {

@@ -1,4 +1,0 @@
--- Laws that belong to no one function.
-mod Again
-mod Both
-mod Calls
