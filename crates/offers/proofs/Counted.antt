@@ -1,9 +1,9 @@
 -- What an offer counts, by what it tells.
-use mathlib.Core.Path.{◌≡◌, refl, sym, ap, subst}
+use mathlib.Core.Path.{◌≡◌, refl, ap, subst}
 use mathlib.Core.Logic.{inl, inr}
 use mathlib.Core.Bool.{Bool, true, false, cond}
 use mathlib.Core.List.{[], ◌∷◌}
-use Prim.Native.Nat.{◌+◌, ◌≤◌, ◌<◌}
+use Prim.Native.Nat.{◌+◌, ◌≤◌}
 use native.Mathlib.Omega.{arith}
 use borrow.Author.Tests.{ltb-true}
 use Rattle.told.specs.Told.{Told, gave, refused, if_good}
@@ -21,9 +21,6 @@ use Rattle.skipping.specs.Reasons.{goes_back, comes_too_soon}
 use Rattle.offers.specs.Whole.{Table, check_in}
 use Rattle.offers.specs.Offer.{Outcome, recorded, went_back, too_soon, pair_refused, low_seq, outcome_of, offer_to, offered_to}
 use Rattle.offers.specs.Counted.{Counts, OfferCounts, CountedExactly}
-use Rattle.offers.specs.Inner.{told_came, RoomFor}
-use Rattle.offers.specs.declared.inner.Came.{Came}
-use Rattle.offers.specs.declared.inner.Came.TheVariants.{Recorded, WentBack, TooSoon, PairRefused, Full}
 
 -- the totals after an offer that told this
 abbrev pub totals_with : Told Outcome → Totals → Totals
@@ -69,17 +66,6 @@ module _ (w : Table) (seq : Seq) (ts : Second) where
       go : (c : Told (Unit {0})) → check_in w ≡ c → if_good c (cond (full w.state.totals) (refused (31 ∷ [])) (gave (outcome_of w seq ts))) ≡ gave o → Reached o
       go (refused what) e h = absurd (not_given what o h)
       go (gave tt) e h = let p = passed (full w.state.totals) (31 ∷ []) _ o h in record { good = e; room = p.0; outcome = same_gift p.1 }
-
-  room_left : (o : Outcome) → gave o ≡ offer_to w seq ts → sum_of w.state.totals < most
-  room_left o e = omega (arith, room_for_one w.state.totals (reached o (sym e)).room)
-
-  -- so there is room to count what came of it
-  pub room_for : (c : Came) → told_came w.state ts c ≡ offer_to w seq ts → RoomFor w.state c
-  room_for (Recorded count) e = room_left _ e
-  room_for WentBack e = room_left _ e
-  room_for TooSoon e = room_left _ e
-  room_for (PairRefused why) e = room_left _ e
-  room_for Full e = tt
 
   pub counts_so : (o : Told Outcome) → offer_to w seq ts ≡ o → Counts w o
   counts_so o h = subst (Counts w) h offer_counts
