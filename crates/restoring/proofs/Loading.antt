@@ -2,11 +2,11 @@
 use Prim.Native.Nat.{ℕ, zero, suc, ◌-◌, ◌≤◌, ◌<◌}
 use mathlib.Core.Path.{◌≡◌, refl, sym, ap, ap₂, ◌∙◌}
 use mathlib.Core.Bool.{Bool, true, false, cond}
-use mathlib.Core.List.{List, [], ◌∷◌}
+use mathlib.Core.List.{List}
 use native.Mathlib.Omega.{arith}
-use borrow.Author.Tests.{ltb-false, leb-true, eqb-false}
+use borrow.Author.Tests.{ltb-false, eqb-false}
 use lib.Dec.{leb, ltb, eqb}
-use lib.ListN.{length, get_or, take, drop, length-append}
+use lib.ListN.{length, get_or, take}
 use lib.Seq.{take_at, take_all}
 use lib.IntN.{ℤ, pos}
 use Rattle.told.specs.Told.{Told, gave, refused, if_good}
@@ -30,9 +30,6 @@ use Rattle.restoring.specs.Restore.{read_table, judged, too_short, restore_at}
 
 -- what was read into arrays xs and ys, of which n places are values now
 pub record Loaded (bytes xs : List ℕ) (ys : List ℤ) (n : ℕ) : Type 0 where
-  pub few : n ≤ 8192
-  pub room_seqs : n ≤ length xs
-  pub room_secs : n ≤ length ys
   pub seqs : take n xs ≡ (pairs_read (read_table bytes)).seqs
   pub secs : take n ys ≡ (pairs_read (read_table bytes)).secs
   pub judge : (interval : ℕ) → settled_of interval xs ys n ≡ judged interval (read_table bytes)
@@ -82,9 +79,6 @@ module _ (bytes S : List ℕ) (T : List ℤ) (hs : length S ≡ 8192) (ht : leng
           let s : S' ≡ over p.seqs S = f ∙ ap (stored.seqs_over S) e in
           let t : T' ≡ over p.secs T = k ∙ ap (stored.secs_over T) e in
           record {
-            room_seqs = omega (arith, ap length s, length-append p.seqs (drop (length p.seqs) S));
-            room_secs = omega (arith, ap length t, length-append p.secs (drop (length p.secs) T));
-            few = omega (arith, leb-true (length p.secs) 8192 counts.1);
             seqs = ap (take n) s ∙ take_at p.seqs _ n a ∙ ap (λ (r : Read Pairs). (pairs_read r).seqs) (sym e);
             secs = ap (take n) t ∙ take_at p.secs _ n b ∙ ap (λ (r : Read Pairs). (pairs_read r).secs) (sym e);
             judge = λ interval. ap₂ (λ (x : List ℕ) (y : List ℤ). settled_of interval x y n) s t ∙ settled_is S T p n a b interval ∙ ap (judged interval) (sym e);
@@ -108,19 +102,12 @@ module _ (bytes S : List ℕ) (T : List ℤ) (hs : length S ≡ 8192) (ht : leng
           let d : what ≡ l = cc in
           ap refused d ∙ ap (judged interval) (sym e)
 
--- ---- the rule, by the interval and by the lengths of the lent arrays
 pub places : (m n : ℕ) → too_short m n ≡ false → (8192 ≤ m) × (8192 ≤ n)
 places m n h =
     let both = neither (ltb m 8192) (ltb n 8192) h in
     (omega (arith, ltb-false m 8192 both.0), omega (arith, ltb-false n 8192 both.1))
 
-module _ (interval : ℕ) (bytes xs : List ℕ) (ys : List ℤ) where
-  pub bad_interval : bad_settings default_capacity interval ≡ true → refused (15 ∷ []) ≡ restore_at interval bytes xs ys
-  bad_interval b = rw b
-
-  module _ (v : bad_settings default_capacity interval ≡ false) where
-    pub too_short_lem : too_short (length xs) (length ys) ≡ true → refused (14 ∷ []) ≡ restore_at interval bytes xs ys
-    too_short_lem h = rw (v, h)
-
-    pub long : too_short (length xs) (length ys) ≡ false → judged interval (read_table bytes) ≡ restore_at interval bytes xs ys
-    long h = rw (v, h)
+-- where the interval is valid and the arrays have the places, what was read is judged
+pub long : (interval : ℕ) (bytes xs : List ℕ) (ys : List ℤ) → bad_settings default_capacity interval ≡ false → too_short (length xs) (length ys) ≡ false
+    → judged interval (read_table bytes) ≡ restore_at interval bytes xs ys
+long interval bytes xs ys v h = rw (v, h)
