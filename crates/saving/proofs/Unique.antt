@@ -6,7 +6,7 @@ use mathlib.Core.Logic.{⊎_elim}
 use mathlib.Core.List.{List}
 use native.Mathlib.Omega.{arith}
 use lib.IntN.{ℤ}
-use Rattle.told.specs.Told.{Told, refused}
+use Rattle.told.specs.Told.{Told}
 use Rattle.told.specs.Over.{filled}
 use Rattle.told.proofs.Unique.{given_not_refused, same-list, same_gift}
 use Rattle.tracker.specs.Refusal.{told}
