@@ -11,8 +11,8 @@ use text::inner::{put_byte, put_decimal, put_signed, put_word_line};
 
 // 20 bytes for a date, 21 at most for a second.
 fn put_third(out: &mut [u8], at: usize, sec: i64, dates: bool) -> usize
-    requires sec_value { dates && outside sec ≡ false }
-    requires at_in_bounds { at + 21 ≤ length out.old }
+    requires has_date { dates && outside sec ≡ false }
+    requires room { at + 21 ≤ length out.old }
     ensures { Put out.old at (third_of dates sec) out.new result }
 {
     if dates {
@@ -24,8 +24,8 @@ fn put_third(out: &mut [u8], at: usize, sec: i64, dates: bool) -> usize
 // The line of one pair has 64 bytes at most: 20 for the position, 20 for the sequence, 21 for the
 // third field, two spaces and the end of the line.
 fn put_line(out: &mut [u8], at: usize, i: usize, seq: u64, sec: i64, dates: bool) -> usize
-    requires sec_value { dates && outside sec ≡ false }
-    requires at_in_bounds { at + 64 ≤ length out.old }
+    requires has_date { dates && outside sec ≡ false }
+    requires room { at + 64 ≤ length out.old }
     ensures { Put out.old at (line (third_of dates) i seq sec) out.new result }
 {
     let a = put_decimal(out, at, i as u64);
@@ -44,8 +44,8 @@ fn put_lines(
     count: usize,
     dates: bool,
 ) -> usize
-    requires count_in_bounds { (count ≤ length seqs.now) × (count ≤ length secs.now) × HaveDates dates secs.now count }
-    requires count_in_bounds_2 { at + count * 64 ≤ length out.old }
+    requires held { (count ≤ length seqs.now) × (count ≤ length secs.now) × HaveDates dates secs.now count }
+    requires room { at + count * 64 ≤ length out.old }
     ensures { Put out.old at (lines (third_of dates) seqs.now secs.now count) out.new result }
 {
     let mut p = at;
@@ -58,8 +58,8 @@ fn put_lines(
 }
 
 fn put_entries(out: &mut [u8], seqs: &[u64], secs: &[i64], count: usize, dates: bool) -> usize
-    requires count_in_bounds { (count ≤ length seqs.now) × (count ≤ length secs.now) × HaveDates dates secs.now count }
-    requires count_in_bounds_2 { count * 64 + 64 ≤ length out.old }
+    requires held { (count ≤ length seqs.now) × (count ≤ length secs.now) × HaveDates dates secs.now count }
+    requires room { count * 64 + 64 ≤ length out.old }
     ensures { Put out.old 0 (entries_text (third_of dates) seqs.now secs.now count) out.new result }
 {
     let p = put_word_line(out, 0, b"entries ", count as u64);
@@ -76,8 +76,8 @@ fn lacks_date(secs: &[i64], count: usize, dates: bool) -> bool
 
 // The text of the first `count` pairs. 27 is found before a byte is put.
 pub fn put_pairs(out: &mut [u8], seqs: &[u64], secs: &[i64], count: usize, dates: bool) -> usize
-    requires count_in_bounds { (count ≤ length seqs.now) × (count ≤ length secs.now) }
-    requires count_in_bounds_2 { count * 64 + 64 ≤ length out.old }
+    requires held { (count ≤ length seqs.now) × (count ≤ length secs.now) }
+    requires room { count * 64 + 64 ≤ length out.old }
     ensures { Put out.old 0 (pairs_text dates seqs.now secs.now count) out.new result }
 {
     if lacks_date(secs, count, dates) {
