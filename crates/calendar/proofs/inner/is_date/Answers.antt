@@ -1,8 +1,5 @@
-use Rattle.calendar.proofs.Calls.{no_year, no_month, month_in, no_day, all_but_clock}
+use Rattle.calendar.proofs.Calls.{no_year, no_month, no_day, all_but_clock}
 use Rattle.calendar.proofs.inner.is_date.Goals as goal
-
-pub is_day-requires : goal.is_day-requires
-is_day-requires c = month_in c.args.d c.is_within.result c.is_within.ensures c.if-is_within.true c.is_within-then-is_within.result c.is_within-then-is_within.ensures c.if-is_within-2.true
 
 pub returns-then-is_day : goal.returns-then-is_day
 returns-then-is_day c = all_but_clock c.args.d c.is_within.result c.is_within.ensures c.if-is_within.true c.is_within-then-is_within.result c.is_within-then-is_within.ensures c.if-is_within-2.true c.is_day.result c.is_day.ensures c.is_time.result c.if-is_day.true c.is_time.ensures

@@ -1,16 +1,11 @@
-use mathlib.Core.Path.{◌≡◌}
-use Rattle.calendar.specs.Calendar.{moment_of}
 use Prim.Native.Nat.{◌+◌, ◌-◌, ◌*◌, ◌<◌}
 use native.Mathlib.Omega.{arith}
-use Rattle.calendar.proofs.Calls.{m_is, m_small}
+use Rattle.calendar.proofs.Calls.{m_small}
 use Rattle.calendar.proofs.inner.moment_of.Goals as goal
 use Rattle.calendar.proofs.inner.moment_of.Goals.{After-days_before_month}
 
 whole : (c : After-days_before_month) → (c.days_of_years.result + c.days_before_month.result + (c.args.d.day - 1)) * 86400 + c.args.d.hour * 3600 + c.args.d.minute * 60 + c.args.d.second < 315537897600
 whole c = m_small c.args.d c.requires c.days_of_years.result c.days_before_month.result c.is_leap.result c.days_of_years.ensures c.is_leap.ensures c.days_before_month.ensures
-
-all : (c : After-days_before_month) → (c.days_of_years.result + c.days_before_month.result + (c.args.d.day - 1)) * 86400 + c.args.d.hour * 3600 + c.args.d.minute * 60 + c.args.d.second ≡ moment_of c.args.d
-all c = m_is c.args.d c.requires c.days_of_years.result c.days_before_month.result c.is_leap.result c.days_of_years.ensures c.is_leap.ensures c.days_before_month.ensures
 
 pub overflow_add-days : goal.overflow_add-days
 overflow_add-days c = omega (arith, whole (c))
@@ -29,6 +24,3 @@ overflow_add-result-2 c = omega (arith, whole (goal.at.overflow_add-result-2 c).
 
 pub overflow_add-result-3 : goal.overflow_add-result-3
 overflow_add-result-3 c = omega (arith, whole (goal.at.overflow_add-result-3 c).After-days_before_month)
-
-pub returns : goal.returns
-returns c = all (goal.at.returns c).After-days_before_month

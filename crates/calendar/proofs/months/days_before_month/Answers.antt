@@ -1,8 +1,5 @@
-use mathlib.Core.Path.{◌≡◌, ◌∙◌, ap}
-use Prim.Native.Nat.{ℕ, ◌+◌}
+use Prim.Native.Nat.{◌+◌}
 use native.Mathlib.Omega.{arith}
-use lib.ListN.{take}
-use Rattle.calendar.specs.Calendar.{lengths_of, summed}
 use Rattle.calendar.proofs.Steps.{ahead_more, ahead_small, none_ahead}
 use Rattle.calendar.proofs.months.days_before_month.Goals as goal
 
@@ -14,8 +11,3 @@ overflow_add-n c = omega (arith, c.month_length-n.ensures, ahead_more c.args.lea
 
 pub loop-i-preserved : goal.loop-i-preserved
 loop-i-preserved c = omega (arith, c.month_length-n.ensures, ahead_more c.args.leap c.loop-i.i (omega arith))
-
-pub returns : goal.returns
-returns c =
-    let e : c.loop-i.i ≡ c.args.m = omega arith in
-    c.loop-i.invariant.1 ∙ ap (λ (k : ℕ). summed (take k (lengths_of c.args.leap))) e

@@ -9,9 +9,6 @@ use Rattle.calendar.proofs.months.place_in.Goals as goal
 pub loop-left-init : goal.loop-left-init
 loop-left-init c = omega (arith, none_ahead c.args.leap)
 
-pub overflow_sub-left : goal.overflow_sub-left
-overflow_sub-left c = omega (arith, c.month_length.ensures, c.month_length-left.ensures, c.loop-left-test.true)
-
 pub loop-left-preserved : goal.loop-left-preserved
 loop-left-preserved c =
     let e : c.args.d ≡ summed (take (c.loop-left.m + 1) (lengths_of c.args.leap)) + (c.loop-left.left - c.month_length-left.result) =
