@@ -1,4 +1,4 @@
-use mathlib.Core.Path.{◌≡◌, refl, sym, ◌∙◌, ap}
+use mathlib.Core.Path.{◌≡◌, sym, ◌∙◌, ap}
 use mathlib.Core.Bool.{false}
 use mathlib.Core.List.{[], ◌∷◌}
 use lib.ListN.{length}
@@ -7,7 +7,7 @@ use Rattle.told.specs.Told.{gave}
 use Rattle.tracker.specs.Table.{check_of}
 use Rattle.questions.specs.Asked.{told_asked}
 use Rattle.questions.proofs.Good.{good-pairs, gives_seq}
-use Rattle.questions.proofs.Left.{if_done, if_refused}
+use Rattle.questions.proofs.Left.{if_done}
 use Rattle.question_lists.specs.Each.{differ, list_rule}
 use Rattle.question_lists.proofs.Fill.{filled-by, as_long}
 use Rattle.question_lists.proofs.find_seq_each.Goals as goal
@@ -17,9 +17,6 @@ use Rattle.question_lists.proofs.find_seq_each.Goals.{After-judged-asked, In-Don
 by_rule : (c : After-judged-asked) → let a = c.args in
     told_asked c.judged-asked.result ≡ list_rule a.table a.seqs.now a.secs.now (length a.keys.now) (length a.answers.now) (length a.found.now)
 by_rule c = rw (← c.differ-differ.ensures) c.judged-asked.ensures
-
-pub returns-in_default : goal.returns-in_default
-returns-in_default c = (by_rule (goal.at.returns-in_default c).After-judged-asked, if_refused _ _ _ c.judged-asked.result c.in_default.not-Done (by_rule (goal.at.returns-in_default c).After-judged-asked) (refl, refl))
 
 -- not refused, the slices have one length and the table is good
 passes : (c : In-Done) → let a = c.args in

@@ -1,5 +1,5 @@
 use borrow.Author.Tests.{ltb-false}
-use mathlib.Core.Path.{◌≡◌, refl, sym, ◌∙◌, ap}
+use mathlib.Core.Path.{◌≡◌, sym, ◌∙◌, ap}
 use mathlib.Core.Bool.{false}
 use mathlib.Core.List.{[], ◌∷◌}
 use lib.Dec.{ltb}
@@ -8,13 +8,10 @@ use Rattle.told.specs.Told.{gave}
 use Rattle.tracker.specs.Table.{check_of}
 use Rattle.questions.specs.Asked.{told_asked}
 use Rattle.questions.proofs.Good.{good-pairs, gives_ts}
-use Rattle.questions.proofs.Left.{if_done, if_refused}
+use Rattle.questions.proofs.Left.{if_done}
 use Rattle.sheets.proofs.Fill.{filled-by}
 use Rattle.sheets.proofs.find_ts_16.Goals as goal
 use Rattle.sheets.proofs.find_ts_16.Goals.{In-Done}
-
-pub returns-in_default : goal.returns-in_default
-returns-in_default c = (c.judged-asked.ensures, if_refused _ _ _ c.judged-asked.result c.in_default.not-Done c.judged-asked.ensures refl)
 
 -- not refused, there are at most sixteen questions and the table is good
 passes : (c : In-Done) → let a = c.args in (ltb 16 a.sheet.used ≡ false) × (check_of a.table a.seqs.now a.secs.now ≡ gave tt)
