@@ -1,6 +1,5 @@
 -- The answers of a list, filled from its first question on.
-use Prim.Native.Nat.{ℕ, ◌+◌, ◌≤◌, ◌<◌}
-use native.Mathlib.Omega.{arith}
+use Prim.Native.Nat.{ℕ, ◌+◌, ◌<◌}
 use mathlib.Core.Path.{◌≡◌, refl, ◌∙◌}
 use mathlib.Core.Bool.{false, not}
 use mathlib.Core.List.{List}
@@ -10,11 +9,8 @@ use lib.IntN.{ℤ}
 use lib.ListN.{length, length-set, get_or, set}
 use lib.Seq.{get_or-set_same, get_or-set_other}
 use Rattle.told.specs.Told.{Told, gave}
-use Rattle.tracker.specs.declared.Seq.{Seq}
-use Rattle.tracker.specs.declared.Second.{Second}
 use Rattle.order.proofs.Bools.{neither}
-use Rattle.lookup.specs.Find.{Partner, partner, nothing}
-use Rattle.questions.specs.Stands.{ts_stands, seq_stands}
+use Rattle.lookup.specs.Find.{Partner}
 use Rattle.questions.specs.declared.TsAnswer.{TsAnswer}
 use Rattle.questions.specs.declared.SeqAnswer.{SeqAnswer}
 use Rattle.questions.proofs.Answered.{answered_none, answered_more, answered_by}
@@ -65,12 +61,3 @@ pub as_long : (keys answers found : ℕ) → differ keys answers found ≡ false
 as_long keys answers found h =
     let both = neither (not (eqb keys answers)) (not (eqb keys found)) h in
     (eqb-true _ _ (not-false (eqb keys answers) both.0), eqb-true _ _ (not-false (eqb keys found) both.1))
-
--- a mark is 0 or 1
-pub ts_mark : (r : TsAnswer) (p : Partner Second) → r ≡ ts_stands p → r.found ≤ 1
-ts_mark r (partner s) e = rw e (omega arith)
-ts_mark r nothing e = rw e (omega arith)
-
-pub seq_mark : (r : SeqAnswer) (p : Partner Seq) → r ≡ seq_stands p → r.found ≤ 1
-seq_mark r (partner q) e = rw e (omega arith)
-seq_mark r nothing e = rw e (omega arith)
