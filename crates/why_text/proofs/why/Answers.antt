@@ -2,18 +2,12 @@ use native.Mathlib.Nat.{le_trans}
 use native.Mathlib.Omega.{arith}
 use Rattle.report.proofs.Answers.{whole, refused-length}
 use Rattle.why_text.proofs.Lengths.{image_length}
-use Rattle.why_text.proofs.Rule.{asked, asked_text_lem, unasked_text, too_long_lem}
+use Rattle.why_text.proofs.Rule.{asked_text_lem, unasked_text, too_long_lem}
 use Rattle.why_text.proofs.why.Goals as goal
 
 pub returns-then-input-gt-MOST_INPUT : goal.returns-then-input-gt-MOST_INPUT
 returns-then-input-gt-MOST_INPUT c =
     rw (too_long_lem c.args.input.now c.if-input-gt-MOST_INPUT.true) (whole c.put_refused.ensures (omega (arith, refused-length 22)))
-
-pub slice_bounds-put_of_image-count : goal.slice_bounds-put_of_image-count
-slice_bounds-put_of_image-count c = (asked c.args.input.now c.question_of.result c.question_of.ensures c.in-At.q c.in-At.at c.in-At.is).1
-
-pub slice_bounds-put_of_image-start : goal.slice_bounds-put_of_image-start
-slice_bounds-put_of_image-start c = (asked c.args.input.now c.question_of.result c.question_of.ensures c.in-At.q c.in-At.at c.in-At.is).1
 
 pub returns-in-At : goal.returns-in-At
 returns-in-At c =

@@ -3,11 +3,6 @@ use Rattle.text.proofs.Putting.{then, next}
 use Rattle.text.proofs.Numbers.{decimal-length}
 use Rattle.why_text.proofs.lines.put_rounded_down.Goals as goal
 
-pub put_decimal-b-requires : goal.put_decimal-b-requires
-put_decimal-b-requires c =
-    let r1 = next 13 115 c.put_bytes-a.ensures (omega arith) c.requires in
-    omega (arith, r1)
-
 pub put_byte-c-requires : goal.put_byte-c-requires
 put_byte-c-requires c =
     let r1 = next 13 115 c.put_bytes-a.ensures (omega arith) c.requires in

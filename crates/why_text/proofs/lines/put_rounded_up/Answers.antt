@@ -3,11 +3,6 @@ use Rattle.text.proofs.Putting.{then, next}
 use Rattle.why_text.proofs.Lengths.{neighbour_length}
 use Rattle.why_text.proofs.lines.put_rounded_up.Goals as goal
 
-pub put_neighbour-b-requires : goal.put_neighbour-b-requires
-put_neighbour-b-requires c =
-    let r1 = next 11 117 c.put_bytes-a.ensures (omega arith) c.requires in
-    omega (arith, r1)
-
 pub put_byte-c-requires : goal.put_byte-c-requires
 put_byte-c-requires c =
     let r1 = next 11 117 c.put_bytes-a.ensures (omega arith) c.requires in
