@@ -53,12 +53,6 @@ run_more xs i p e n v x r g h k l =
           ∙ ap₂ (λ (b : List ℕ) (m : ℕ). b ++ codes_bits x e (drop m xs)) (sym (nat_join n 1 0 0 (pow_pos n) (omega arith))) (add_assoc i n 1);
     }
 
--- seven of them
-pub run_all : (xs : List ℤ) (i : ℕ) (t : Track) (p e : ℤ) (n : ℕ) (v : ℤ) → p ≡ t.prev → e ≡ t.delta → i + 7 ≤ length xs → Run xs i p e n v → n ≡ 7 → Even xs i t
-run_all xs i t p e n v a b h r k =
-    let s : Run xs i p e 7 v = subst (λ (m : ℕ). Run xs i p e m v) k r in
-    (h, ap₂ (λ (x y : ℤ). codes_bits x y (drop i xs)) (sym a) (sym b) ∙ s.zeros ∙ ap₂ (λ (x y : ℤ). nat_bits 7 0 ++ codes_bits x y (drop (i + 7) xs)) (s.last (omega arith)) b)
-
 -- past a run, of which x is the last value
 pub leads_run : (xs : List ℤ) (i : ℕ) (t : Track) (x : ℤ) → Even xs i t → x ≡ get_or xs (i + 7 - 1) (pos 0) → Leads xs i t (nat_bits 7 0) (i + 7) (record { prev = x; delta = t.delta })
 leads_run xs i t x h e = h.1 ∙ ap (λ (y : ℤ). nat_bits 7 0 ++ codes_bits y t.delta (drop (i + 7) xs)) (sym e)
