@@ -10,6 +10,7 @@ use lengths::inner::image_bytes;
 const MOST: usize = 65536;
 
 // A length that no image of so many pairs exceeds, at 36 bits a code; or 18, 19.
+#[tactic(auto, unfolding(crate::specs::Encode::arrays_rule))]
 pub fn most_bytes(seqs: &[u64], secs: &[i64]) -> EncodedLen
     ensures { told_len result ≡ arrays_rule seqs.now secs.now (gave (length seqs.now * 9 + 21)) }
 {
