@@ -12,7 +12,7 @@ ghost use Rattle.listing_io.specs.Inner.{prints_by, Lists};
 
 use input::Over;
 use report::TEXT_ROOM;
-use running::inner::{print, report};
+use running::inner::{print, report_failure};
 use std::io;
 
 // One byte more than an image may have, so that too long an input is seen.
@@ -81,7 +81,7 @@ fn run_as(
         } else {
             unwritten
         };
-        report(rt, what, why);
+        report_failure(rt, what, why);
     }
     over
 }

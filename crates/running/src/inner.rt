@@ -13,7 +13,7 @@ pub fn print<W: io::Write>(to: &mut W, text: &[u8], size: usize) -> io::Result<(
 }
 
 // Reports on standard error what failed, and why.
-pub fn report(rt: &impl Eprint, what: &[u8], why: io::Error) {
+pub fn report_failure(rt: &impl Eprint, what: &[u8], why: io::Error) {
     let what = what.escape_ascii();
     eprintln!(rt; "{what}: {why}").ok();
 }

@@ -5,7 +5,7 @@ mod records; // records.rt: one record of any kind
 mod stored; // stored.rt: the input, one record after the other
 mod verdict; // verdict.rt: what is printed
 
-use running::inner::report;
+use running::inner::report_failure;
 use vector_bytes::part;
 use vector_tally as tally;
 
@@ -29,11 +29,11 @@ fn run(
     let mut failure = None;
     let over = input::read_all(&mut rt.reader(), bytes, &mut failure);
     if let Some(why) = failure {
-        report(rt, b"vectors: standard input", why);
+        report_failure(rt, b"vectors: standard input", why);
         return;
     }
     let replayed = stored::replay_all(part(bytes, 0, input::bytes(over)), seqs, secs, tally);
     if let Err(why) = verdict::print(rt, replayed, tally) {
-        report(rt, b"vectors: standard output", why);
+        report_failure(rt, b"vectors: standard output", why);
     }
 }

@@ -11,7 +11,7 @@ ghost use Rattle.why_text.specs.Text.{why_text};
 ghost use Rattle.why_io.specs.Run.{Explaining};
 
 use input::Over;
-use running::inner::{print, report};
+use running::inner::{print, report_failure};
 use std::io;
 use why_text::TEXT_ROOM;
 
@@ -73,7 +73,7 @@ pub fn run(
         } else {
             b"why: standard output"
         };
-        report(rt, what, why);
+        report_failure(rt, what, why);
     }
     over
 }
