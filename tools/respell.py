@@ -109,14 +109,6 @@ def page(text, names):
 declared_before = set()
 
 
-def meeting(text, names):
-    """The spellings that two words of a file would have."""
-    found = {}
-    for word in WORD.findall(text):
-        found.setdefault(names.get(word, word), set()).add(word)
-    return {new: olds for new, olds in found.items() if len(olds) > 1}
-
-
 def main(argv):
     names = table()
     declared_before.update(declared("proofs"))
