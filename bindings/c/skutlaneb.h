@@ -236,12 +236,12 @@ struct skut_answer skut_find_ts(struct skut_state state, const uint64_t *seqs, s
 struct skut_answer skut_find_seq(struct skut_state state, const uint64_t *seqs, size_t seqs_len, const int64_t *secs, size_t secs_len, int64_t sec, uint32_t round);
 
 /* The seconds of up to sixteen sequences: 35, before all else. The table is checked once; each question is answered as skut_find_ts would answer it, with one
- * `round` for all. With 0 nothing is told in a, b, c. Stack: 1,920 bytes; until memset and memcpy are found, as in skut_restore, more by what the dynamic linker
+ * `round` for all. With 0 nothing is told in a, b, c. Stack: 1,920 bytes; until memcpy is found, more by what the dynamic linker
  * takes. */
 struct skut_ts_sheet_answer skut_find_ts_16(struct skut_state state, const uint64_t *seqs, size_t seqs_len, const int64_t *secs, size_t secs_len,
                                             struct skut_ts_sheet sheet, uint32_t round);
 
-/* The sequences of up to sixteen seconds, likewise, as skut_find_seq would answer. Stack: 1,920 bytes; until memset and memcpy are found, more, too. */
+/* The sequences of up to sixteen seconds, likewise, as skut_find_seq would answer. Stack: 1,920 bytes; until memcpy is found, more, too. */
 struct skut_seq_sheet_answer skut_find_seq_16(struct skut_state state, const uint64_t *seqs, size_t seqs_len, const int64_t *secs, size_t secs_len,
                                               struct skut_seq_sheet sheet, uint32_t round);
 
