@@ -3,6 +3,9 @@
 #![tactic(auto)]
 
 pub mod inner; // inner.rt: rows of codes, widths, and the step from value to value
+mod stored; // stored.rt: what an array holds, as the signed numbers that are stored
+
+pub use stored::Stored;
 
 // The two arrays of an image.
 #[derive(Clone, Copy)]
