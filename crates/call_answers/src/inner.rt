@@ -24,7 +24,7 @@ use questions::Asked;
 use saving::Saved;
 use sheets::{SeqSheetBack, TsSheetBack};
 use signed::{Extended, as_unsigned};
-use tracker::Checked;
+use tracker::Refusal;
 
 pub fn of_read(read: BitsRead) -> Answer
     ensures { result ≡ of_piece (reading.told_read read) }
@@ -91,12 +91,12 @@ pub fn of_image_len(len: ImageLen) -> Answer
     }
 }
 
-pub fn of_checked(checked: Checked) -> Answer
+pub fn of_checked(checked: Result<(), Refusal>) -> Answer
     ensures { result ≡ of_check (told_check checked) }
 {
     match checked {
-        Checked::Good => answer(0, 0, 0, 0),
-        Checked::Refused(why) => refusals::of_table(why),
+        Ok(()) => answer(0, 0, 0, 0),
+        Err(why) => refusals::of_table(why),
     }
 }
 

@@ -7,7 +7,7 @@ use lib.IntN.{pos}
 use lib.ListN.{take, replicate}
 use Rattle.order.specs.First.{first_from}
 use Rattle.fresh.specs.Fresh.{fresh_table}
-use Rattle.tracker.specs.declared.LastRecorded.TheVariants.{At}
+use Rattle.std.specs.Prelude.{Some}
 use Rattle.bit_lists.specs.BitList.{nat_bits, bits_of, nat_from, bytes_of, packed}
 use Rattle.gorilla.specs.Format.{code_bits, codes_bits, values_bits, array_bits, le_bytes, image_bytes}
 use Rattle.gorilla.specs.Parser.{take_bits}
@@ -36,13 +36,13 @@ runs : let w = ran_to begin (offer 100 0 ∷ reload plain ∷ offer 164 10 ∷ r
     let v = ran_to begin (offer 0 0 ∷ offer 1 2147483648 ∷ reload plain ∷ []) in
     (take 3 w.seqs ≡ 100 ∷ 164 ∷ 5 ∷ [])
     × (take 3 w.secs ≡ pos 0 ∷ pos 10 ∷ pos 5 ∷ [])
-    × (w.state ≡ fresh_table 8192 10 2 (At (record { 0 = pos 10 })))
+    × (w.state ≡ fresh_table 8192 10 2 (Some (record { 0 = pos 10 })))
     × (take 3 v.seqs ≡ 0 ∷ 1 ∷ 3 ∷ [])
     × (take 3 v.secs ≡ pos 0 ∷ pos 2147483648 ∷ pos 3 ∷ [])
 unfolding offer reload begin step ran_to evens first_from arrays_rule room_rule wide_of wide_in wide_after strict nat_bits bits_of nat_from bytes_of packed take_bits code_bits codes_bits values_bits array_bits le_bytes image_bytes row_of cut_number count_ones read_code read_codes values_after read_values read_array le_count read_part read_pairs
 runs = (refl, refl, refl, refl, refl)
 
 -- P5's image with padding that is not zeros, and a byte after it
-from_others : GoesOn 60 (whole (fresh_table 8192 60 2 (At (record { 0 = pos 60 }))) (100 ∷ 164 ∷ replicate 8190 3) (pos 0 ∷ pos 60 ∷ replicate 8190 (pos 3)))
+from_others : GoesOn 60 (whole (fresh_table 8192 60 2 (Some (record { 0 = pos 60 }))) (100 ∷ 164 ∷ replicate 8190 3) (pos 0 ∷ pos 60 ∷ replicate 8190 (pos 3)))
 unfolding first_from nat_bits bits_of nat_from take_bits cut_number count_ones read_code read_codes values_after read_values read_array le_count read_part read_pairs
 from_others = (demand 60).1 (fifth 0x0F 0x7F ++ (7 ∷ [])) (replicate 8192 3) _ (replicate 8192 (pos 3)) _ _ (refl, refl, refl)

@@ -1,5 +1,5 @@
 -- The cases of docs/RULES.md, "Cases", P1 to P12 and those that its rules name, as one table: what goes in, and what must come out.
-use Rattle.std.specs.Prelude.{ℕ, ◌≡◌, List, [], ◌∷◌, ◌++◌, length, take, replicate, pos, neg_ℤ}
+use Rattle.std.specs.Prelude.{ℕ, ◌≡◌, List, [], ◌∷◌, ◌++◌, length, take, replicate, pos, neg_ℤ, Some}
 use Rattle.told.specs.Told.{Told, gave, refused}
 use Rattle.told.specs.Over.{over, filled}
 use Rattle.signed.specs.Signed.{signed, sub_s}
@@ -13,7 +13,6 @@ use Rattle.tracker.specs.declared.Seq.{Seq}
 use Rattle.tracker.specs.declared.Second.{Second}
 use Rattle.tracker.specs.declared.TrackedSeq.{TrackedSeq}
 use Rattle.tracker.specs.declared.SequenceTracker.{SequenceTracker}
-use Rattle.tracker.specs.declared.LastRecorded.TheVariants.{At}
 use Rattle.lookup.specs.Find.{Partner, partner, nothing, find_ts, find_seq}
 use Rattle.lookup.specs.declared.FindOption.{FindOption}
 use Rattle.lookup.specs.declared.FindOption.TheVariants.{RoundUp, RoundDown}
@@ -56,7 +55,7 @@ RestoreTells interval room bytes told = restore_at interval bytes (lent room).se
 
 -- a table keeps these pairs, and this is the last recorded second
 abbrev pub Keeps : Table → List TrackedSeq → ℕ → Type 0
-Keeps w l last = (kept_in w ≡ pairs_in l) × (w.state.last_recorded_ts ≡ At (second last))
+Keeps w l last = (kept_in w ≡ pairs_in l) × (w.state.last_recorded_ts ≡ Some (second last))
 
 -- one more offer tells this
 abbrev pub Tells : Table → TrackedSeq → Told Outcome → Type 0
@@ -142,9 +141,9 @@ pub record Cases : Type 0 where
       × Keeps (offered_all 8192 new_table.interval_secs (pair 1 100 ∷ pair 2 110 ∷ [])) (pair 1 100 ∷ pair 2 110 ∷ []) 110
   -- P5's image restored: interval 10; with an interval that is named, that one
   pub restored :
-      (restore_of (fifth 0x00 0x00) (lent 8192).seqs (lent 8192).secs ≡ gave (fresh_table 8192 10 2 (At (second 60))))
-      × RestoreTells 60 8192 (fifth 0x00 0x00) (gave (fresh_table 8192 60 2 (At (second 60))))
-      × RestoreTells 9223372036854775807 8192 (fifth 0x00 0x00) (gave (fresh_table 8192 9223372036854775807 2 (At (second 60))))
+      (restore_of (fifth 0x00 0x00) (lent 8192).seqs (lent 8192).secs ≡ gave (fresh_table 8192 10 2 (Some (second 60))))
+      × RestoreTells 60 8192 (fifth 0x00 0x00) (gave (fresh_table 8192 60 2 (Some (second 60))))
+      × RestoreTells 9223372036854775807 8192 (fifth 0x00 0x00) (gave (fresh_table 8192 9223372036854775807 2 (Some (second 60))))
   -- 15 for an interval of 2^63, before 14 for arrays of 8,191 places, before 1 for no byte
   pub restore-order :
       RestoreTells 9223372036854775808 8192 (fifth 0x00 0x00) (refused (15 ∷ []))
@@ -162,26 +161,26 @@ pub record Cases : Type 0 where
   -- offered in order up to the first refusal: (4,160) after (5,100), recorded, and (6,159), too soon, is refused with 17 at position 2, and this is counted
   pub log :
       (log_of (offered_all 4 60 []) (pair 5 100 ∷ pair 6 159 ∷ pair 4 160 ∷ pair 6 170 ∷ [])).answer
-      ≡ gave (stopped (17 ∷ 2 ∷ []) (with_totals (four 1 0 1 1) (fresh_table 4 60 1 (At (second 100)))) (record { recorded = 1; went_back = 0; too_soon = 1 }))
+      ≡ gave (stopped (17 ∷ 2 ∷ []) (with_totals (four 1 0 1 1) (fresh_table 4 60 1 (Some (second 100)))) (record { recorded = 1; went_back = 0; too_soon = 1 }))
   -- counted apart: (5,100) and (6,160), recorded, (6,159), too soon, and (6,99), (4,98), (7,0), went back
   pub tally :
       (log_of (offered_all 4 60 []) (pair 5 100 ∷ pair 6 99 ∷ pair 6 159 ∷ pair 4 98 ∷ pair 6 160 ∷ pair 7 0 ∷ [])).answer
-      ≡ gave (done (with_totals (four 2 3 1 0) (fresh_table 4 60 2 (At (second 160)))) (record { recorded = 2; went_back = 3; too_soon = 1 }))
+      ≡ gave (done (with_totals (four 2 3 1 0) (fresh_table 4 60 2 (Some (second 160)))) (record { recorded = 2; went_back = 3; too_soon = 1 }))
   -- the totals: after (5,100), recorded, (6,99), went back, and (6,159), too soon, they are 1, 1, 1, 0; (4,160) is refused with 17 and a second out of domain with 16, and each changes the fourth alone
   pub totals :
-      ((offered_all 4 60 (pair 5 100 ∷ pair 6 99 ∷ pair 6 159 ∷ [])).state ≡ with_totals (four 1 1 1 0) (fresh_table 4 60 1 (At (second 100))))
-      × Tells (offered_all 4 60 (pair 5 100 ∷ [])) (pair 4 160) (gave (pair_refused (17 ∷ []) (with_totals (four 1 0 0 1) (fresh_table 4 60 1 (At (second 100))))))
-      × Tells (offered_all 4 60 (pair 5 100 ∷ [])) (pair 6 253402300800) (gave (pair_refused (16 ∷ []) (with_totals (four 1 0 0 1) (fresh_table 4 60 1 (At (second 100))))))
+      ((offered_all 4 60 (pair 5 100 ∷ pair 6 99 ∷ pair 6 159 ∷ [])).state ≡ with_totals (four 1 1 1 0) (fresh_table 4 60 1 (Some (second 100))))
+      × Tells (offered_all 4 60 (pair 5 100 ∷ [])) (pair 4 160) (gave (pair_refused (17 ∷ []) (with_totals (four 1 0 0 1) (fresh_table 4 60 1 (Some (second 100))))))
+      × Tells (offered_all 4 60 (pair 5 100 ∷ [])) (pair 6 253402300800) (gave (pair_refused (16 ∷ []) (with_totals (four 1 0 0 1) (fresh_table 4 60 1 (Some (second 100))))))
   -- they may come to 2^64-1: one offer less, and the next is counted; then it is 31, before 16; 2^64 is 14, before 31
   pub totals-full :
-      Tells (totalled (four 0 0 0 18446744073709551614) (offered_all 4 60 [])) (pair 5 100) (gave (recorded (with_totals (four 1 0 0 18446744073709551614) (fresh_table 4 60 1 (At (second 100))))))
+      Tells (totalled (four 0 0 0 18446744073709551614) (offered_all 4 60 [])) (pair 5 100) (gave (recorded (with_totals (four 1 0 0 18446744073709551614) (fresh_table 4 60 1 (Some (second 100))))))
       × Tells (totalled (four 18446744073709551615 0 0 0) (offered_all 4 60 [])) (pair 5 100) (refused (31 ∷ []))
       × Tells (totalled (four 0 9223372036854775807 0 9223372036854775808) (offered_all 4 60 [])) (pair 5 253402300800) (refused (31 ∷ []))
       × Tells (totalled (four 18446744073709551615 0 1 0) (offered_all 4 60 [])) (pair 5 100) (refused (14 ∷ []))
   -- a list that fills them: (5,100) is counted, and (6,160), at position 1, is refused with 31; the state is as the offers before left it
   pub totals-full-in-list :
       (log_of (totalled (four 0 0 18446744073709551614 0) (offered_all 4 60 [])) (pair 5 100 ∷ pair 6 160 ∷ [])).answer
-      ≡ gave (stopped (31 ∷ 1 ∷ []) (with_totals (four 1 0 18446744073709551614 0) (fresh_table 4 60 1 (At (second 100)))) (record { recorded = 1; went_back = 0; too_soon = 0 }))
+      ≡ gave (stopped (31 ∷ 1 ∷ []) (with_totals (four 1 0 18446744073709551614 0) (fresh_table 4 60 1 (Some (second 100)))) (record { recorded = 1; went_back = 0; too_soon = 0 }))
   -- with the totals full a list of no record is not refused, nor is an extension by an empty table
   pub totals-full-no-record :
       ((log_of (totalled (four 18446744073709551615 0 0 0) (offered_all 4 60 [])) []).answer ≡ gave (done (with_totals (four 18446744073709551615 0 0 0) (empty_table 4 60)) none_yet))

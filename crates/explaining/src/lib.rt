@@ -5,7 +5,7 @@ ghost use Rattle.std.specs.Prelude.{◌≡◌};
 ghost use Rattle.explaining.specs.Why.{why_ts, why_seq, told_why_ts, told_why_seq};
 
 use lookup::FindOption;
-use tracker::{Checked, Refusal, Second, Seq, SequenceTracker, check};
+use tracker::{Refusal, Second, Seq, SequenceTracker, check};
 
 pub mod inner; // inner.rt: the reason in a table that is checked
 
@@ -59,7 +59,7 @@ pub fn why_ts(
 {
     let checked = check(table, seqs, secs);
     match checked {
-        Checked::Good => {
+        Ok(()) => {
             let n = table.count;
             let reason = inner::seqs::reason(seqs, n, seq, find_opt);
             let at = inner::answering(reason, n);
@@ -70,7 +70,7 @@ pub fn why_ts(
                 WhyTs::Nothing(reason)
             }
         }
-        Checked::Refused(why) => WhyTs::Refused(why),
+        Err(why) => WhyTs::Refused(why),
     }
 }
 
@@ -86,7 +86,7 @@ pub fn why_seq(
 {
     let checked = check(table, seqs, secs);
     match checked {
-        Checked::Good => {
+        Ok(()) => {
             let n = table.count;
             let reason = inner::secs::reason(secs, n, ts, find_opt);
             let at = inner::answering(reason, n);
@@ -97,6 +97,6 @@ pub fn why_seq(
                 WhySeq::Nothing(reason)
             }
         }
-        Checked::Refused(why) => WhySeq::Refused(why),
+        Err(why) => WhySeq::Refused(why),
     }
 }

@@ -1,11 +1,10 @@
 -- Tables just made.
-use Rattle.std.specs.Prelude.{ℕ, cond, [], ◌∷◌}
+use Rattle.std.specs.Prelude.{ℕ, cond, [], ◌∷◌, None, Option}
 use Rattle.told.specs.Told.{Told, gave, refused}
 use Rattle.limits.specs.Settings.{bad_settings}
 use Rattle.totals.specs.Totals.{no_totals}
 use Rattle.tracker.specs.declared.SequenceTracker.{SequenceTracker}
-use Rattle.tracker.specs.declared.LastRecorded.{LastRecorded}
-use Rattle.tracker.specs.declared.LastRecorded.TheVariants.{Never}
+use Rattle.tracker.specs.declared.Second.{Second}
 
 -- the defaults
 abbrev pub default_capacity : ℕ
@@ -15,12 +14,12 @@ abbrev pub default_interval_secs : ℕ
 default_interval_secs = 10
 
 -- the state of a table just made, with count pairs in its arrays, and no offer counted
-abbrev pub fresh_table : ℕ → ℕ → ℕ → LastRecorded → SequenceTracker
+abbrev pub fresh_table : ℕ → ℕ → ℕ → Option Second → SequenceTracker
 fresh_table capacity interval count last = record { count = count; capacity = capacity; interval_secs = interval; last_recorded_ts = last; totals = no_totals }
 
 -- a table with no pair
 abbrev pub empty_table : ℕ → ℕ → SequenceTracker
-empty_table capacity interval = fresh_table capacity interval 0 Never
+empty_table capacity interval = fresh_table capacity interval 0 None
 
 -- `new`: no pair, the default settings
 abbrev pub new_table : SequenceTracker

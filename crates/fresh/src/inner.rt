@@ -2,13 +2,13 @@
 ghost use Rattle.std.specs.Prelude.{◌≡◌};
 ghost use Rattle.fresh.specs.Fresh.{fresh_table};
 
-use tracker::{LastRecorded, SequenceTracker};
+use tracker::{Second, SequenceTracker};
 
 pub fn fresh(
     capacity: u32,
     interval_secs: u64,
     count: usize,
-    last_recorded_ts: LastRecorded,
+    last_recorded_ts: Option<Second>,
 ) -> SequenceTracker
     ensures { result ≡ fresh_table capacity interval_secs count last_recorded_ts }
 {

@@ -5,7 +5,7 @@ ghost use Rattle.std.specs.Prelude.{◌≡◌};
 ghost use Rattle.tracker.specs.Refusal.{told_made};
 ghost use Rattle.fresh.specs.Fresh.{new_table, config_of};
 
-use tracker::{LastRecorded, Made, Refusal, SequenceTracker};
+use tracker::{Refusal, SequenceTracker};
 
 pub mod inner;
 
@@ -18,21 +18,16 @@ pub const DEFAULT_INTERVAL_SECS: u64 = 10;
 pub fn new() -> SequenceTracker
     ensures { result ≡ new_table }
 {
-    inner::fresh(
-        DEFAULT_CAPACITY,
-        DEFAULT_INTERVAL_SECS,
-        0,
-        LastRecorded::Never,
-    )
+    inner::fresh(DEFAULT_CAPACITY, DEFAULT_INTERVAL_SECS, 0, None)
 }
 
 // An empty table with the settings named, if they are valid.
-pub fn with_config(capacity: u32, interval_secs: u64) -> Made
+pub fn with_config(capacity: u32, interval_secs: u64) -> Result<SequenceTracker, Refusal>
     ensures { told_made result ≡ config_of capacity interval_secs }
 {
     if limits::inner::bad_settings(capacity, interval_secs) {
-        return Made::Refused(Refusal::Settings);
+        return Err(Refusal::Settings);
     }
-    let table = inner::fresh(capacity, interval_secs, 0, LastRecorded::Never);
-    Made::Table(table)
+    let table = inner::fresh(capacity, interval_secs, 0, None);
+    Ok(table)
 }

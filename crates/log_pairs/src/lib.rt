@@ -7,7 +7,7 @@ ghost use Rattle.offer_log.specs.Pairs.{pairs_log_of, extend_of};
 
 use offer_log::Logged;
 use pair_walk::inner::pairs_good;
-use tracker::{Checked, SequenceTracker, check};
+use tracker::{SequenceTracker, check};
 
 // Offers records, the sequences of which stand in one list and the seconds in another of the same length, in order, up to the
 // first refusal. The table is checked once.
@@ -27,8 +27,8 @@ pub fn offer_pairs(
         return Logged::LengthsDiffer;
     }
     match check(table, seqs, secs) {
-        Checked::Good => pairs_good(table, seqs, secs, from_seqs, from_secs, n),
-        Checked::Refused(why) => Logged::Refused(why),
+        Ok(()) => pairs_good(table, seqs, secs, from_seqs, from_secs, n),
+        Err(why) => Logged::Refused(why),
     }
 }
 
@@ -48,10 +48,10 @@ pub fn extend_from(
     let n = other.count;
     let own = check(table, seqs, secs);
     match own {
-        Checked::Good => match check(other, other_seqs, other_secs) {
-            Checked::Good => pairs_good(table, seqs, secs, other_seqs, other_secs, n),
-            Checked::Refused(why) => Logged::OtherRefused(why),
+        Ok(()) => match check(other, other_seqs, other_secs) {
+            Ok(()) => pairs_good(table, seqs, secs, other_seqs, other_secs, n),
+            Err(why) => Logged::OtherRefused(why),
         },
-        Checked::Refused(why) => Logged::OwnRefused(why),
+        Err(why) => Logged::OwnRefused(why),
     }
 }

@@ -8,7 +8,7 @@ ghost use Rattle.offer_log.specs.Inner.{Begins};
 use offer_log::inner::{Phase, Progress};
 use offer_log::{Logged, inner as steps};
 use tallies::inner::none_yet;
-use tracker::{Checked, SequenceTracker, TrackedSeq, check};
+use tracker::{SequenceTracker, TrackedSeq, check};
 
 // A log of n records before the first: a bad table is refused here.
 #[tactic(auto, unfolding(offer_log::specs::Log::run_of))]
@@ -17,8 +17,8 @@ fn begin(seqs: &mut [u64], secs: &mut [i64], table: SequenceTracker, n: usize) -
 {
     let tally = none_yet();
     match check(table, seqs, secs) {
-        Checked::Good => steps::going(table, tally, n),
-        Checked::Refused(why) => Progress {
+        Ok(()) => steps::going(table, tally, n),
+        Err(why) => Progress {
             table: table,
             tally: tally,
             phase: Phase::Bad(why),

@@ -5,7 +5,7 @@ ghost use Rattle.std.specs.Prelude.{◌≡◌};
 ghost use Rattle.lookup.specs.Find.{find_ts, find_seq};
 ghost use Rattle.lookup.specs.Found.{told_ts, told_seq};
 
-use tracker::{Checked, Refusal, Second, Seq, SequenceTracker, check};
+use tracker::{Refusal, Second, Seq, SequenceTracker, check};
 
 pub mod inner;
 
@@ -42,7 +42,7 @@ pub fn find_ts(
 {
     let checked = check(table, seqs, secs);
     match checked {
-        Checked::Good => {
+        Ok(()) => {
             let n = table.count;
             let at_seq = inner::seqs::place(seqs, n, seq, find_opt);
             if at_seq < n {
@@ -52,7 +52,7 @@ pub fn find_ts(
                 FoundTs::Nothing
             }
         }
-        Checked::Refused(why) => FoundTs::Refused(why),
+        Err(why) => FoundTs::Refused(why),
     }
 }
 
@@ -68,7 +68,7 @@ pub fn find_seq(
 {
     let checked = check(table, seqs, secs);
     match checked {
-        Checked::Good => {
+        Ok(()) => {
             let n = table.count;
             let at_sec = inner::secs::place(secs, n, ts, find_opt);
             if at_sec < n {
@@ -78,6 +78,6 @@ pub fn find_seq(
                 FoundSeq::Nothing
             }
         }
-        Checked::Refused(why) => FoundSeq::Refused(why),
+        Err(why) => FoundSeq::Refused(why),
     }
 }

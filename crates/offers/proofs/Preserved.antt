@@ -26,8 +26,8 @@ use Rattle.order.specs.Order.{sec_outside}
 use Rattle.tracker.specs.declared.Seq.{Seq}
 use Rattle.tracker.specs.declared.Second.{Second}
 use Rattle.tracker.specs.declared.SequenceTracker.{SequenceTracker}
-use Rattle.tracker.specs.declared.LastRecorded.{LastRecorded}
-use Rattle.tracker.specs.declared.LastRecorded.TheVariants.{Never, At}
+use Rattle.tracker.specs.declared.Second.{Second}
+use Rattle.std.specs.Prelude.{None, Some, Option}
 use Rattle.order.proofs.Bools.{below_or}
 use Rattle.tracker.proofs.Good.{Fine, fine, fine_again, room_is, count-seqs, count-secs}
 use Rattle.tracker.proofs.Rest.{good_totals}
@@ -49,9 +49,9 @@ count_fits cap n m c h p =
     (below_or n cap)
 
 -- the last kept second is not above the one offered
-pub after_last : (last : LastRecorded) (secs : List ℤ) (n : ℕ) (s : ℤ) → last_misplaced last n ≡ false → last_below last secs n ≡ false → goes_back last s ≡ false → 0 < n → lt_z s (get_or secs (n - 1) (pos 0)) ≡ false
-after_last Never secs n s m b t p = absurd (omega (arith, eqb-true n 0 (not-false (eqb n 0) m)))
-after_last (At l) secs n s m b t p = further lt_z int_order (get_or secs (n - 1) (pos 0)) l.0 s b t
+pub after_last : (last : Option Second) (secs : List ℤ) (n : ℕ) (s : ℤ) → last_misplaced last n ≡ false → last_below last secs n ≡ false → goes_back last s ≡ false → 0 < n → lt_z s (get_or secs (n - 1) (pos 0)) ≡ false
+after_last None secs n s m b t p = absurd (omega (arith, eqb-true n 0 (not-false (eqb n 0) m)))
+after_last (Some l) secs n s m b t p = further lt_z int_order (get_or secs (n - 1) (pos 0)) l.0 s b t
 
 -- the last kept sequence is not above the one offered
 pub after-low : (seqs : List ℕ) (n q : ℕ) → low_seq seqs n q ≡ false → 0 < n → ltb q (get_or seqs (n - 1) 0) ≡ false

@@ -1,5 +1,5 @@
 -- An offer: what it tells, and the table after it.
-use Rattle.std.specs.Prelude.{ℕ, ◌-◌, Bool, not, cond, ◌&&◌, List, [], ◌∷◌, ltb, eqb, length, get_or}
+use Rattle.std.specs.Prelude.{ℕ, ◌-◌, Bool, not, cond, ◌&&◌, List, [], ◌∷◌, ltb, eqb, length, get_or, Some}
 use Rattle.told.specs.Told.{Told, gave, refused, if_good}
 use Rattle.told.specs.Over.{over}
 use Rattle.limits.specs.Domain.{outside}
@@ -11,7 +11,6 @@ use Rattle.tracker.specs.Rest.{with_totals}
 use Rattle.tracker.specs.declared.Seq.{Seq}
 use Rattle.tracker.specs.declared.Second.{Second}
 use Rattle.tracker.specs.declared.SequenceTracker.{SequenceTracker}
-use Rattle.tracker.specs.declared.LastRecorded.TheVariants.{At}
 use Rattle.skipping.specs.Reasons.{goes_back, comes_too_soon}
 use Rattle.keeping.specs.Keep.{kept_with}
 use Rattle.offers.specs.Whole.{Table, whole, check_in, Left, leaving}

@@ -5,7 +5,7 @@
 ghost use Rattle.offers.specs.Whole.{whole, Leaves};
 ghost use Rattle.offers.specs.Offer.{told_offer, offering};
 
-use tracker::{Checked, Refusal, Second, Seq, SequenceTracker, check};
+use tracker::{Refusal, Second, Seq, SequenceTracker, check};
 
 pub mod inner;
 mod steps;
@@ -38,10 +38,10 @@ pub fn offer(
 {
     let checked = check(table, seqs, secs);
     match checked {
-        Checked::Good => {
+        Ok(()) => {
             let came = inner::offer_good(table, seqs, secs, seq, ts);
             steps::offered(table, came, ts)
         }
-        Checked::Refused(why) => Offered::Refused(why),
+        Err(why) => Offered::Refused(why),
     }
 }

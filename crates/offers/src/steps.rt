@@ -8,7 +8,7 @@ use crate::inner::Came;
 use crate::{Offered, inner};
 use totals::Fate;
 use totals::inner::one_more;
-use tracker::{LastRecorded, Refusal, Second, SequenceTracker};
+use tracker::{Refusal, Second, SequenceTracker};
 
 // Whether q is below the last kept sequence.
 pub(crate) fn low_seq(seqs: &[u64], n: usize, q: u64) -> bool
@@ -42,7 +42,7 @@ pub(crate) fn with_pair(table: SequenceTracker, count: usize, ts: Second) -> Seq
     requires { sum_of table.totals < most }
     ensures { result ≡ state_with table count ts }
 {
-    let at = LastRecorded::At(ts);
+    let at = Some(ts);
     let totals = one_more(table.totals, Fate::Recorded);
     SequenceTracker {
         count: count,

@@ -8,7 +8,7 @@ ghost use Rattle.questions.specs.Inner.{GoodPairs, ts_partner, seq_partner};
 
 use crate::{Asked, SeqAnswer, TsAnswer};
 use lookup::FindOption;
-use tracker::{Checked, Second, Seq, SequenceTracker, check};
+use tracker::{Refusal, Second, Seq, SequenceTracker, check};
 
 // The answer to one question by sequence, among the first n pairs of a good table.
 pub fn ts_answer(seqs: &[u64], secs: &[i64], n: usize, seq: Seq, find_opt: FindOption) -> TsAnswer
@@ -57,12 +57,12 @@ pub fn seq_answer(
 }
 
 // What is told of a refusal of the call's own and of the check of the table: the own one comes first.
-fn first_of(own: bool, why: Asked, checked: Checked) -> Asked
+fn first_of(own: bool, why: Asked, checked: Result<(), Refusal>) -> Asked
     ensures { told_asked result ≡ cond own (told_asked why) (told_check checked) }
 {
     match checked {
-        Checked::Good => { if own { why } else { Asked::Done } }
-        Checked::Refused(table) => { if own { why } else { Asked::Refused(table) } }
+        Ok(()) => { if own { why } else { Asked::Done } }
+        Err(table) => { if own { why } else { Asked::Refused(table) } }
     }
 }
 

@@ -19,8 +19,8 @@ use Rattle.order.proofs.Bools.{neither}
 use Rattle.limits.specs.Settings.{bad_settings}
 use Rattle.fresh.specs.Fresh.{default_capacity, fresh_table}
 use Rattle.tracker.specs.declared.SequenceTracker.{SequenceTracker}
-use Rattle.tracker.specs.declared.LastRecorded.{LastRecorded}
-use Rattle.tracker.specs.declared.LastRecorded.TheVariants.{Never, At}
+use Rattle.tracker.specs.declared.Second.{Second}
+use Rattle.std.specs.Prelude.{None, Some, Option}
 use Rattle.tracker.proofs.Kept.{kept_at, pairs-kept}
 use Rattle.decoder.specs.Decode.{listed, count_of, decode_rule}
 use Rattle.decoder.proofs.Stored as stored
@@ -45,7 +45,7 @@ by_zero (suc n) f = omega arith
 same-last : (xs ys : List ℤ) (n : ℕ) → take n xs ≡ take n ys → last_of xs n ≡ last_of ys n
 same-last xs ys n e = go (eqb n 0) refl
   where
-    go : (t : Bool) → eqb n 0 ≡ t → cond t Never (At (record { 0 = get_or xs (n - 1) (pos 0) })) ≡ cond t Never (At (record { 0 = get_or ys (n - 1) (pos 0) }))
+    go : (t : Bool) → eqb n 0 ≡ t → cond t None (Some (record { 0 = get_or xs (n - 1) (pos 0) })) ≡ cond t None (Some (record { 0 = get_or ys (n - 1) (pos 0) }))
     go true f = refl
     go false f =
         let l : n - 1 < n = by_zero n f in
@@ -57,7 +57,7 @@ module _ (old-seqs : List ℕ) (old-secs : List ℤ) (p : Pairs) (n : ℕ) (a : 
   settled_is interval =
       let s : take n (over p.seqs old-seqs) ≡ take n p.seqs = take_at p.seqs _ n a ∙ sym (take_all n p.seqs (omega arith)) in
       let t : take n (over p.secs old-secs) ≡ take n p.secs = take_at p.secs _ n b ∙ sym (take_all n p.secs (omega arith)) in
-      ap₂ (λ (r : Told (Unit {0})) (l : LastRecorded). if_good r (gave (fresh_table 8192 interval n l)))
+      ap₂ (λ (r : Told (Unit {0})) (l : Option Second). if_good r (gave (fresh_table 8192 interval n l)))
       (pairs-kept n (over p.seqs old-seqs) p.seqs (over p.secs old-secs) p.secs s t) (same-last (over p.secs old-secs) p.secs n t)
       ∙ ap (settled_of interval p.seqs p.secs) (sym a)
 

@@ -6,7 +6,7 @@ ghost use Rattle.tracker.specs.Refusal.{told_made};
 ghost use Rattle.restoring.specs.Restore.{told_restore, too_short, Restores, RestoresAt};
 
 use decoder::Decoded;
-use tracker::{Made, Refusal, SequenceTracker};
+use tracker::{Refusal, SequenceTracker};
 
 // What a restore answers.
 #[derive(Clone, Copy)]
@@ -18,12 +18,12 @@ pub enum Restored {
     NotDecoded(decoder::Refusal),
 }
 
-fn of_made(made: Made) -> Restored
+fn of_made(made: Result<SequenceTracker, Refusal>) -> Restored
     ensures { told_restore result ≡ told_made made }
 {
     match made {
-        Made::Table(table) => Restored::Table(table),
-        Made::Refused(why) => Restored::Refused(why),
+        Ok(table) => Restored::Table(table),
+        Err(why) => Restored::Refused(why),
     }
 }
 

@@ -9,7 +9,7 @@ ghost use Rattle.saving.specs.Save.{save_of, save_strict_of, Saves};
 ghost use Rattle.saving.specs.Inner.{EncodesFirst};
 
 use encoder::Encoded;
-use tracker::{Checked, Refusal, SequenceTracker, check};
+use tracker::{Refusal, SequenceTracker, check};
 
 // What a save answers.
 #[derive(Clone, Copy)]
@@ -46,11 +46,11 @@ pub fn save(table: SequenceTracker, seqs: &[u64], secs: &[i64], out: &mut [u8]) 
 {
     let checked = check(table, seqs, secs);
     match checked {
-        Checked::Good => {
+        Ok(()) => {
             let n = table.count;
             encode_kept(seqs, secs, n, false, out)
         }
-        Checked::Refused(why) => Saved::Refused(why),
+        Err(why) => Saved::Refused(why),
     }
 }
 
@@ -60,10 +60,10 @@ pub fn save_strict(table: SequenceTracker, seqs: &[u64], secs: &[i64], out: &mut
 {
     let checked = check(table, seqs, secs);
     match checked {
-        Checked::Good => {
+        Ok(()) => {
             let n = table.count;
             encode_kept(seqs, secs, n, true, out)
         }
-        Checked::Refused(why) => Saved::Refused(why),
+        Err(why) => Saved::Refused(why),
     }
 }

@@ -5,7 +5,7 @@ ghost use Rattle.tracker.specs.Refusal.{told_check};
 ghost use Rattle.settling.specs.Settle.{last_of};
 ghost use Rattle.settling.specs.Inner.{count_if_good, Settles};
 
-use tracker::{Checked, LastRecorded, Made, Second, inner};
+use tracker::{Refusal, Second, SequenceTracker, inner};
 
 fn copy_seqs(to: &mut [u64], from: &[u64], n: usize)
     requires { (n ≤ length to.old) × (n ≤ length from.now) }
@@ -30,24 +30,24 @@ fn copy_secs(to: &mut [i64], from: &[i64], n: usize)
 }
 
 // The last of n seconds, if any.
-fn last_of(secs: &[i64], n: usize) -> LastRecorded
+fn last_of(secs: &[i64], n: usize) -> Option<Second>
     requires { n ≤ length secs.now }
     ensures { result ≡ last_of secs.now n }
 {
     if n == 0 {
-        return LastRecorded::Never;
+        return None;
     }
-    LastRecorded::At(Second(secs[n - 1]))
+    Some(Second(secs[n - 1]))
 }
 
 // How many of n pairs are stored: none where their check refuses them.
-fn if_good(checked: Checked, n: usize) -> usize
+fn if_good(checked: Result<(), Refusal>, n: usize) -> usize
     ensures stored { result ≡ count_if_good (told_check checked) n }
     ensures few { result ≤ n }
 {
     match checked {
-        Checked::Good => n,
-        Checked::Refused(_) => 0,
+        Ok(()) => n,
+        Err(_) => 0,
     }
 }
 
@@ -60,7 +60,7 @@ pub fn settle(
     own_secs: &[i64],
     n: usize,
     interval_secs: u64,
-) -> Made
+) -> Result<SequenceTracker, Refusal>
     requires { (n ≤ 8192) × (n ≤ length own_seqs.now) × (n ≤ length own_secs.now) × (n ≤ length seqs.old) × (n ≤ length secs.old) }
     ensures { Settles interval_secs n own_seqs.now own_secs.now seqs.old secs.old result seqs.new secs.new }
 {
@@ -69,10 +69,10 @@ pub fn settle(
     copy_seqs(seqs, own_seqs, stored);
     copy_secs(secs, own_secs, stored);
     match checked {
-        Checked::Good => {
+        Ok(()) => {
             let last = last_of(own_secs, n);
-            Made::Table(fresh::inner::fresh(fresh::DEFAULT_CAPACITY, interval_secs, n, last))
+            Ok(fresh::inner::fresh(fresh::DEFAULT_CAPACITY, interval_secs, n, last))
         }
-        Checked::Refused(why) => Made::Refused(why),
+        Err(why) => Err(why),
     }
 }

@@ -8,8 +8,8 @@ use borrow.Author.Tests.{lt-ltb, le-ltb}
 use lib.Dec.{leb-suc-suc}
 use lib.IntN.{ℤ, pos, negsuc, ◌-ℤ◌}
 use lib.Signed.{lt_z}
-use Rattle.tracker.specs.declared.LastRecorded.{LastRecorded}
-use Rattle.tracker.specs.declared.LastRecorded.TheVariants.{Never, At}
+use Rattle.tracker.specs.declared.Second.{Second}
+use Rattle.std.specs.Prelude.{None, Some, Option}
 use Rattle.order.proofs.Bools.{neither}
 use Rattle.skipping.specs.Reasons.{goes_back, comes_too_soon, skips, Reasons}
 
@@ -44,24 +44,24 @@ not_then : (a : Bool) → not a && a ≡ false
 not_then true = refl
 not_then false = refl
 
-pub either : (last : LastRecorded) (interval : ℕ) (s : ℤ) → (goes_back last s || comes_too_soon last interval s) ≡ skips last interval s
-either Never interval s = refl
-either (At l) interval s = second_test (lt_z s l.0) (lt_z (s -ℤ l.0) (pos interval)) (λ e. below_none (s -ℤ l.0) interval (diff_sign s l.0 ∙ e))
+pub either : (last : Option Second) (interval : ℕ) (s : ℤ) → (goes_back last s || comes_too_soon last interval s) ≡ skips last interval s
+either None interval s = refl
+either (Some l) interval s = second_test (lt_z s l.0) (lt_z (s -ℤ l.0) (pos interval)) (λ e. below_none (s -ℤ l.0) interval (diff_sign s l.0 ∙ e))
 
 -- an offer that the rule skips and that did not go back came too soon; one that it does not skip did neither
-pub else_soon : (last : LastRecorded) (interval : ℕ) (s : ℤ) → skips last interval s ≡ true → goes_back last s ≡ false → comes_too_soon last interval s ≡ true
+pub else_soon : (last : Option Second) (interval : ℕ) (s : ℤ) → skips last interval s ≡ true → goes_back last s ≡ false → comes_too_soon last interval s ≡ true
 else_soon last interval s h b = rw b at (either last interval s) ∙ h
 
-pub not_skipped : (last : LastRecorded) (interval : ℕ) (s : ℤ) → skips last interval s ≡ false → (goes_back last s ≡ false) × (comes_too_soon last interval s ≡ false)
+pub not_skipped : (last : Option Second) (interval : ℕ) (s : ℤ) → skips last interval s ≡ false → (goes_back last s ≡ false) × (comes_too_soon last interval s ≡ false)
 not_skipped last interval s h = neither (goes_back last s) (comes_too_soon last interval s) (either last interval s ∙ h)
 
 pub reasons : Reasons
 reasons = record { either = either; not_both = not_both; only_back = only_back }
   where
-    not_both : (last : LastRecorded) (interval : ℕ) (s : ℤ) → (goes_back last s && comes_too_soon last interval s) ≡ false
-    not_both Never interval s = refl
-    not_both (At l) interval s = first_alone (lt_z s l.0) (lt_z (s -ℤ l.0) (pos interval))
+    not_both : (last : Option Second) (interval : ℕ) (s : ℤ) → (goes_back last s && comes_too_soon last interval s) ≡ false
+    not_both None interval s = refl
+    not_both (Some l) interval s = first_alone (lt_z s l.0) (lt_z (s -ℤ l.0) (pos interval))
 
-    only_back : (last : LastRecorded) (s : ℤ) → comes_too_soon last 0 s ≡ false
-    only_back Never s = refl
-    only_back (At l) s = rw (diff_sign s l.0) (not_then (lt_z s l.0))
+    only_back : (last : Option Second) (s : ℤ) → comes_too_soon last 0 s ≡ false
+    only_back None s = refl
+    only_back (Some l) s = rw (diff_sign s l.0) (not_then (lt_z s l.0))

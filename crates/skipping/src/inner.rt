@@ -5,16 +5,16 @@ ghost use Rattle.tracker.specs.Inner.{last_outside};
 ghost use Rattle.skipping.specs.Reasons.{skips, goes_back};
 
 use signed::as_signed;
-use tracker::LastRecorded;
+use tracker::Second;
 
 // The one test that decides whether an offer is skipped. In the domain the difference cannot overflow.
-pub fn skips(last: LastRecorded, interval_secs: u64, s: i64) -> bool
+pub fn skips(last: Option<Second>, interval_secs: u64, s: i64) -> bool
     requires { (last_outside last ≡ false) × (outside s ≡ false) × (interval_secs < 9223372036854775808) }
     ensures { result ≡ skips last interval_secs s }
 {
     match last {
-        LastRecorded::Never => false,
-        LastRecorded::At(before) => {
+        None => false,
+        Some(before) => {
             let x = before.0;
             let passed = s - x;
             passed < as_signed(interval_secs)
@@ -23,12 +23,12 @@ pub fn skips(last: LastRecorded, interval_secs: u64, s: i64) -> bool
 }
 
 // And which of the two reasons it is: s is below the last recorded second, or it is not.
-pub fn went_back(last: LastRecorded, s: i64) -> bool
+pub fn went_back(last: Option<Second>, s: i64) -> bool
     ensures { result ≡ goes_back last s }
 {
     match last {
-        LastRecorded::Never => false,
-        LastRecorded::At(before) => {
+        None => false,
+        Some(before) => {
             let x = before.0;
             s < x
         }

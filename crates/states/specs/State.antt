@@ -1,8 +1,7 @@
 -- A table's state as it crosses to another language and back.
-use Rattle.std.specs.Prelude.{ℕ, cond, ltb, eqb, ℤ, pos}
+use Rattle.std.specs.Prelude.{ℕ, cond, ltb, eqb, ℤ, pos, None, Some, Option}
 use Rattle.totals.specs.Totals.{no_totals}
-use Rattle.tracker.specs.declared.LastRecorded.{LastRecorded}
-use Rattle.tracker.specs.declared.LastRecorded.TheVariants.{Never, At}
+use Rattle.tracker.specs.declared.Second.{Second}
 use Rattle.tracker.specs.declared.SequenceTracker.{SequenceTracker}
 use Rattle.lookup.specs.declared.FindOption.{FindOption}
 use Rattle.lookup.specs.declared.FindOption.TheVariants.{RoundUp, RoundDown}
@@ -11,8 +10,8 @@ use Rattle.states.specs.declared.State.{State}
 -- ---- in: any numbers are taken, and a table that they do not make is for the call to refuse
 
 -- the last recorded second: none where the mark is 0
-abbrev pub last_in : ℕ → ℤ → LastRecorded
-last_in mark s = cond (eqb mark 0) Never (At (record { 0 = s }))
+abbrev pub last_in : ℕ → ℤ → Option Second
+last_in mark s = cond (eqb mark 0) None (Some (record { 0 = s }))
 
 -- a capacity above 8,192, which every call refuses with 14
 abbrev pub no_capacity : ℕ
@@ -35,9 +34,9 @@ round_of n = cond (eqb n 0) RoundUp RoundDown
 -- ---- out
 
 -- the mark, and the second or 0
-abbrev pub last_out : LastRecorded → ℕ × ℤ
-last_out Never = (0, pos 0)
-last_out (At s) = (1, s.0)
+abbrev pub last_out : Option Second → ℕ × ℤ
+last_out None = (0, pos 0)
+last_out (Some s) = (1, s.0)
 
 abbrev pub state_of : SequenceTracker → State
 state_of t =

@@ -4,18 +4,18 @@ ghost use Rattle.states.specs.State.{last_in, no_capacity, table_of, round_of, s
 
 use crate::State;
 use lookup::FindOption;
-use tracker::{LastRecorded, Second, SequenceTracker};
+use tracker::{Second, SequenceTracker};
 
 // A capacity above 8,192, which every call refuses with 14.
 const NO_CAPACITY: u32 = 4294967295;
 
-fn last_in(mark: u32, last: i64) -> LastRecorded
+fn last_in(mark: u32, last: i64) -> Option<Second>
     ensures { result ≡ last_in mark last }
 {
     if mark == 0 {
-        return LastRecorded::Never;
+        return None;
     }
-    LastRecorded::At(Second(last))
+    Some(Second(last))
 }
 
 fn capacity_in(mark: u32, capacity: u32) -> u32
@@ -54,7 +54,7 @@ pub fn state_of(table: SequenceTracker) -> State
     let last = table.last_recorded_ts;
     let totals = table.totals;
     match last {
-        LastRecorded::Never => State {
+        None => State {
             count: table.count,
             capacity: table.capacity,
             has_last: 0,
@@ -62,7 +62,7 @@ pub fn state_of(table: SequenceTracker) -> State
             last: 0,
             totals: totals,
         },
-        LastRecorded::At(s) => State {
+        Some(s) => State {
             count: table.count,
             capacity: table.capacity,
             has_last: 1,

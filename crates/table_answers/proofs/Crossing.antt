@@ -10,8 +10,8 @@ use lib.ListN.{length}
 use Rattle.told.specs.Told.{refused}
 use Rattle.totals.specs.declared.Totals.{Totals}
 use Rattle.tracker.specs.Table.{check_of}
-use Rattle.tracker.specs.declared.LastRecorded.{LastRecorded}
-use Rattle.tracker.specs.declared.LastRecorded.TheVariants.{Never, At}
+use Rattle.tracker.specs.declared.Second.{Second}
+use Rattle.std.specs.Prelude.{None, Some, Option}
 use Rattle.tracker.specs.declared.SequenceTracker.{SequenceTracker}
 use Rattle.states.specs.State.{no_capacity, table_of, last_in, last_out}
 use Rattle.table_answers.specs.Crossing.{Unusable, Crossing}
@@ -33,7 +33,7 @@ unusable t e = record {
 }
 
 -- such a capacity is above 8,192
-no_capacity_lem : (n i : ℕ) (l : LastRecorded) (m : Totals) (seqs : List ℕ) (secs : List ℤ) → check_of (record { count = n; capacity = no_capacity; interval_secs = i; last_recorded_ts = l; totals = m }) seqs secs ≡ refused (14 ∷ [])
+no_capacity_lem : (n i : ℕ) (l : Option Second) (m : Totals) (seqs : List ℕ) (secs : List ℤ) → check_of (record { count = n; capacity = no_capacity; interval_secs = i; last_recorded_ts = l; totals = m }) seqs secs ≡ refused (14 ∷ [])
 no_capacity_lem n i l m seqs secs = refl
 
 pub crossing : Crossing
@@ -43,10 +43,10 @@ crossing = record {
   neither = λ s h. unusable (table_of s) (λ seqs secs. rw (lt-ltb 1 s.has_last h) (no_capacity_lem s.count s.interval_secs (last_in s.has_last s.last) s.totals seqs secs));
 }
   where
-    last-back : (l : LastRecorded) → last_in (last_out l).0 (last_out l).1 ≡ l
-    last-back Never = refl
-    last-back (At s) = refl
+    last-back : (l : Option Second) → last_in (last_out l).0 (last_out l).1 ≡ l
+    last-back None = refl
+    last-back (Some s) = refl
 
-    marked : (l : LastRecorded) → ltb 1 (last_out l).0 ≡ false
-    marked Never = refl
-    marked (At s) = refl
+    marked : (l : Option Second) → ltb 1 (last_out l).0 ≡ false
+    marked None = refl
+    marked (Some s) = refl

@@ -12,14 +12,14 @@ use offer_log::Logged;
 use offers::Offered;
 use restoring::Restored;
 use tallies::inner::of_one;
-use tracker::Made;
+use tracker::{Refusal, SequenceTracker};
 
-pub fn of_made(made: Made) -> TableAnswer
+pub fn of_made(made: Result<SequenceTracker, Refusal>) -> TableAnswer
     ensures { result ≡ of_table (told_made made) }
 {
     match made {
-        Made::Table(table) => tables::fresh(table),
-        Made::Refused(why) => tables::no_table(answers::inner::of_table(why)),
+        Ok(table) => tables::fresh(table),
+        Err(why) => tables::no_table(answers::inner::of_table(why)),
     }
 }
 

@@ -24,8 +24,8 @@ use Rattle.tracker.specs.Table.{last_wrong, disagrees, pairs_of, check_of}
 use Rattle.tracker.specs.Inner.{last_misplaced, last_outside, last_below}
 use Rattle.tracker.specs.Laws.{KeepsPairs}
 use Rattle.tracker.specs.declared.SequenceTracker.{SequenceTracker}
-use Rattle.tracker.specs.declared.LastRecorded.{LastRecorded}
-use Rattle.tracker.specs.declared.LastRecorded.TheVariants.{Never, At}
+use Rattle.tracker.specs.declared.Second.{Second}
+use Rattle.std.specs.Prelude.{None, Some, Option}
 
 -- the room is at least the capacity, and at least 1
 pub room_is : (c m : ℕ) → room_of c ≤ m → (c ≤ m) × (0 < m)
@@ -55,16 +55,16 @@ pub record Agreed (table : SequenceTracker) (seqs : List ℕ) (secs : List ℤ) 
   pub totals_fit : sum_of table.totals ≤ most
 
 -- the last recorded second is not wrong: each part of the rule
-last-parts : (l : LastRecorded) (secs : List ℤ) (n : ℕ) → last_wrong l secs n ≡ false → (last_misplaced l n ≡ false) × (last_outside l ≡ false) × (last_below l secs n ≡ false)
-last-parts Never secs n h = (h, refl, refl)
-last-parts (At s) secs n h =
+last-parts : (l : Option Second) (secs : List ℤ) (n : ℕ) → last_wrong l secs n ≡ false → (last_misplaced l n ≡ false) × (last_outside l ≡ false) × (last_below l secs n ≡ false)
+last-parts None secs n h = (h, refl, refl)
+last-parts (Some s) secs n h =
     let below = neither (eqb n 0 || outside s.0) _ h in
     let placed = neither (eqb n 0) (outside s.0) below.0 in
     (placed.0, placed.1, below.1)
 
-last_right : (l : LastRecorded) (secs : List ℤ) (n : ℕ) → last_misplaced l n ≡ false → last_outside l ≡ false → last_below l secs n ≡ false → last_wrong l secs n ≡ false
-last_right Never secs n placed inside above = placed
-last_right (At s) secs n placed inside above = rw (placed, inside) above
+last_right : (l : Option Second) (secs : List ℤ) (n : ℕ) → last_misplaced l n ≡ false → last_outside l ≡ false → last_below l secs n ≡ false → last_wrong l secs n ≡ false
+last_right None secs n placed inside above = placed
+last_right (Some s) secs n placed inside above = rw (placed, inside) above
 
 module _ (table : SequenceTracker) (seqs : List ℕ) (secs : List ℤ) where
   pub agreed : disagrees table seqs secs ≡ false → Agreed table seqs secs

@@ -15,8 +15,8 @@ use Rattle.order.specs.Order.{drops, sec_outside}
 use Rattle.order.proofs.First.{first-same}
 use Rattle.tracker.specs.Table.{kept, last_wrong, pairs_of, check_of}
 use Rattle.tracker.specs.declared.SequenceTracker.{SequenceTracker}
-use Rattle.tracker.specs.declared.LastRecorded.{LastRecorded}
-use Rattle.tracker.specs.declared.LastRecorded.TheVariants.{Never, At}
+use Rattle.tracker.specs.declared.Second.{Second}
+use Rattle.std.specs.Prelude.{None, Some, Option}
 
 -- an element below n is told by the first n
 pub kept_at : {A : Type 0} (n : ℕ) (xs ys : List A) (i : ℕ) (d : A) → take n xs ≡ take n ys → i < n → get_or xs i d ≡ get_or ys i d
@@ -33,10 +33,10 @@ module _ (n : ℕ) where
   pairs-kept seqs seqs' secs secs' e f = rw (kept-drop ltb 0 seqs seqs' e, kept-drop lt_z (pos 0) secs secs' f, kept-outside secs secs' f)
 
 -- rule 14's part on the last recorded second
-last-kept : (l : LastRecorded) (n : ℕ) (secs secs' : List ℤ) → take n secs ≡ take n secs' → last_wrong l secs n ≡ last_wrong l secs' n
-last-kept Never n secs secs' e = refl
-last-kept (At s) zero secs secs' e = refl
-last-kept (At s) (suc m) secs secs' e = rw (kept_at (suc m) secs secs' (suc m - 1) (pos 0) e (omega arith))
+last-kept : (l : Option Second) (n : ℕ) (secs secs' : List ℤ) → take n secs ≡ take n secs' → last_wrong l secs n ≡ last_wrong l secs' n
+last-kept None n secs secs' e = refl
+last-kept (Some s) zero secs secs' e = refl
+last-kept (Some s) (suc m) secs secs' e = rw (kept_at (suc m) secs secs' (suc m - 1) (pos 0) e (omega arith))
 
 module _ (table : SequenceTracker) (seqs seqs' : List ℕ) (secs secs' : List ℤ) where
   pub check-kept : kept table seqs ≡ kept table seqs' → kept table secs ≡ kept table secs'

@@ -8,13 +8,12 @@ use Prim.Native.Nat.{ℕ, ◌≤◌}
 use native.Mathlib.Omega.{arith}
 use lib.Dec.{eqb}
 use lib.ListN.{get_or}
-use Rattle.told.specs.Told.{Told, gave, refused}
-use Rattle.told.proofs.Unique.{same-list}
+use Rattle.std.specs.Prelude.{Result, Ok, Err}
+use Rattle.told.specs.Told.{Told, refused, told_by}
+use Rattle.told.proofs.Unique.{same-list, same_gift, given_not_refused}
 use Rattle.tracker.specs.Refusal.{told, told_check}
 use Rattle.tracker.specs.declared.Refusal.{Refusal}
 use Rattle.tracker.specs.declared.Refusal.TheVariants.{Disagrees, SequenceDrops, SecondDrops, SecondOutside, Settings, OfferedOutside, OfferedDrops, TotalsFull}
-use Rattle.tracker.specs.declared.Checked.{Checked}
-use Rattle.tracker.specs.declared.Checked.TheVariants as checked
 
 -- where f can be undone, equal values come from equal ones
 pub undone : {A B : Type 0} (f : A → B) (g : B → A) → ((a : A) → g (f a) ≡ a) → (a b : A) → f a ≡ f b → a ≡ b
@@ -63,14 +62,12 @@ table-number TotalsFull = (omega arith, inr refl)
 pub apart : {X : Type 0} {A : Type 0} (k l : List ℕ) → (number k ≡ number l → ⊥) → ◌≡◌ {A = Told A} (refused k) (refused l) → X
 apart k l differ e = absurd (differ (ap number (same-list e)))
 
-checked_of : Told (Unit {0}) → Checked
-checked_of (gave _) = checked.Good
-checked_of (refused l) = checked.Refused (refusal_of l)
+-- what was given, and by what it was refused, back from what is told
+pub one_told : {A : Type 0} (a b : Result A Refusal) → told_by told a ≡ told_by told b → a ≡ b
+one_told (Ok a) (Ok b) e = ap Ok (same_gift e)
+one_told (Ok a) (Err b) e = given_not_refused e
+one_told (Err a) (Ok b) e = given_not_refused (sym e)
+one_told (Err a) (Err b) e = ap Err (table-told a b (same-list e))
 
-pub one-check : (a b : Checked) → told_check a ≡ told_check b → a ≡ b
-unfolding checked_of
-one-check = undone told_check checked_of (λ c. back c)
-  where
-    back : (c : Checked) → checked_of (told_check c) ≡ c
-    back checked.Good = refl
-    back (checked.Refused r) = ap checked.Refused (refusal-back r)
+pub one-check : (a b : Result (Unit {0}) Refusal) → told_check a ≡ told_check b → a ≡ b
+one-check = one_told

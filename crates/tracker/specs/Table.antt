@@ -1,5 +1,5 @@
 -- Rules 14, 11, 12 and 13: when a table is good.
-use Rattle.std.specs.Prelude.{ℕ, ◌-◌, Bool, not, cond, ◌||◌, List, [], ◌∷◌, length, get_or, take, ltb, eqb, ℤ, pos}
+use Rattle.std.specs.Prelude.{ℕ, ◌-◌, Bool, not, cond, ◌||◌, List, [], ◌∷◌, length, get_or, take, ltb, eqb, ℤ, pos, None, Some, Option}
 use Rattle.std.specs.Int.Signed.{lt_z}
 use Rattle.told.specs.Told.{Told, gave, refused}
 use Rattle.limits.specs.Domain.{outside}
@@ -8,17 +8,16 @@ use Rattle.totals.specs.Totals.{too_many}
 use Rattle.order.specs.First.{first}
 use Rattle.order.specs.Order.{drops, sec_outside}
 use Rattle.tracker.specs.declared.SequenceTracker.{SequenceTracker}
-use Rattle.tracker.specs.declared.LastRecorded.{LastRecorded}
-use Rattle.tracker.specs.declared.LastRecorded.TheVariants.{Never, At}
+use Rattle.tracker.specs.declared.Second.{Second}
 
 -- of an array, what the table keeps
 abbrev pub kept : {A : Type 0} → SequenceTracker → List A → List A
 kept table xs = take table.count xs
 
 -- the last recorded second: absent though pairs are kept; or present with count 0, out of domain, or below the last kept second
-abbrev pub last_wrong : LastRecorded → List ℤ → ℕ → Bool
-last_wrong Never secs count = not (eqb count 0)
-last_wrong (At s) secs count = eqb count 0 || outside s.0 || lt_z s.0 (get_or secs (count - 1) (pos 0))
+abbrev pub last_wrong : Option Second → List ℤ → ℕ → Bool
+last_wrong None secs count = not (eqb count 0)
+last_wrong (Some s) secs count = eqb count 0 || outside s.0 || lt_z s.0 (get_or secs (count - 1) (pos 0))
 
 -- 14: settings invalid; an array shorter than the room needed; count above that room;
 -- a last recorded second present with count 0 or absent otherwise; one out of domain or below the last kept second;

@@ -3,24 +3,24 @@ ghost use Rattle.std.specs.Prelude.{◌≡◌, ◌≤◌, length};
 ghost use Rattle.tracker.specs.Refusal.{told_check};
 ghost use Rattle.tracker.specs.Table.{pairs_of};
 
-use crate::{Checked, Refusal};
+use crate::Refusal;
 
 // The first n pairs: the order of the sequences, that of the seconds, then the domain.
-pub fn pairs(seqs: &[u64], secs: &[i64], n: usize) -> Checked
+pub fn pairs(seqs: &[u64], secs: &[i64], n: usize) -> Result<(), Refusal>
     requires { (n ≤ length seqs.now) × (n ≤ length secs.now) × (n ≤ 8192) }
     ensures { told_check result ≡ pairs_of seqs.now secs.now n }
 {
     let seq = order::inner::seq_drop(seqs, n);
     if seq < n {
-        return Checked::Refused(Refusal::SequenceDrops(seq));
+        return Err(Refusal::SequenceDrops(seq));
     }
     let sec = order::inner::sec_drop(secs, n);
     if sec < n {
-        return Checked::Refused(Refusal::SecondDrops(sec));
+        return Err(Refusal::SecondDrops(sec));
     }
     let outside = order::inner::sec_outside(secs, n);
     if outside < n {
-        return Checked::Refused(Refusal::SecondOutside(outside));
+        return Err(Refusal::SecondOutside(outside));
     }
-    Checked::Good
+    Ok(())
 }

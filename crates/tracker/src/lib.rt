@@ -27,17 +27,11 @@ pub struct TrackedSeq {
 }
 
 #[derive(Clone, Copy)]
-pub enum LastRecorded {
-    Never,
-    At(Second),
-}
-
-#[derive(Clone, Copy)]
 pub struct SequenceTracker {
     pub count: usize,
     pub capacity: u32,
     pub interval_secs: u64,
-    pub last_recorded_ts: LastRecorded,
+    pub last_recorded_ts: Option<Second>,
     pub totals: Totals,
 }
 
@@ -54,24 +48,12 @@ pub enum Refusal {
     TotalsFull,
 }
 
-#[derive(Clone, Copy)]
-pub enum Checked {
-    Good,
-    Refused(Refusal),
-}
-
-#[derive(Clone, Copy)]
-pub enum Made {
-    Table(SequenceTracker),
-    Refused(Refusal),
-}
-
 // What every call on a table checks first: that state and arrays agree, then the kept pairs.
-pub fn check(table: SequenceTracker, seqs: &[u64], secs: &[i64]) -> Checked
+pub fn check(table: SequenceTracker, seqs: &[u64], secs: &[i64]) -> Result<(), Refusal>
     ensures { told_check result ≡ check_of table seqs.now secs.now }
 {
     if state::disagrees(table, seqs, secs) {
-        return Checked::Refused(Refusal::Disagrees);
+        return Err(Refusal::Disagrees);
     }
     let n = table.count;
     inner::pairs(seqs, secs, n)

@@ -2,15 +2,15 @@
 ghost use Rattle.std.specs.Prelude.{◌≡◌, ◌≤◌, length};
 ghost use Rattle.tracker.specs.Table as rules;
 
-use crate::{LastRecorded, SequenceTracker};
+use crate::{Second, SequenceTracker};
 
-fn last_wrong(last: LastRecorded, secs: &[i64], n: usize) -> bool
+fn last_wrong(last: Option<Second>, secs: &[i64], n: usize) -> bool
     requires { n ≤ length secs.now }
     ensures { result ≡ rules.last_wrong last secs.now n }
 {
     match last {
-        LastRecorded::Never => n != 0,
-        LastRecorded::At(s) => {
+        None => n != 0,
+        Some(s) => {
             if n == 0 {
                 return true;
             }

@@ -5,7 +5,7 @@ use restoring::Restored;
 use std::num::{wrapping_add_u64 as plus, wrapping_add_usize as after};
 use tallies::Tally;
 use totals::Totals;
-use tracker::{LastRecorded, Made, Refusal, Second, Seq, SequenceTracker};
+use tracker::{Refusal, Second, Seq, SequenceTracker};
 use vector_bodies::lists;
 use vector_bytes::{i64_at, part, u8_at, u16_at, u32_at, u64_at};
 use vector_outcomes::refused_so;
@@ -59,11 +59,11 @@ fn stopped_at(at: usize, why: Refusal, tally: Tally) -> usize {
 
 pub fn made(b: &[u8], table: SequenceTracker) -> Changed {
     match fresh::with_config(u32_at(b, 0) as u32, u64_at(b, 4)) {
-        Made::Table(fresh) => Changed {
+        Ok(fresh) => Changed {
             table: fresh,
             agreed: true,
         },
-        Made::Refused(_) => Changed {
+        Err(_) => Changed {
             table: table,
             agreed: false,
         },
@@ -172,14 +172,14 @@ pub fn run(b: &[u8], table: SequenceTracker, seqs: &mut [u64], secs: &mut [i64])
 }
 
 // The last of n seconds, if any.
-fn last_of(secs: &[i64], n: usize) -> LastRecorded {
+fn last_of(secs: &[i64], n: usize) -> Option<Second> {
     if n == 0 {
-        return LastRecorded::Never;
+        return None;
     }
     if n > secs.len() {
-        return LastRecorded::Never;
+        return None;
     }
-    LastRecorded::At(Second(secs[n - 1]))
+    Some(Second(secs[n - 1]))
 }
 
 pub fn extended(b: &[u8], table: SequenceTracker, seqs: &mut [u64], secs: &mut [i64]) -> Changed {

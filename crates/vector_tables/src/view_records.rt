@@ -4,7 +4,7 @@ use lookup::{FindOption, FoundSeq, FoundTs};
 use questions::{SeqAnswer, TsAnswer};
 use saving::Saved;
 use sheets::{SeqSheet, TsSheet};
-use tracker::{LastRecorded, Second, Seq, SequenceTracker};
+use tracker::{Second, Seq, SequenceTracker};
 use vector_bodies::digest::image_so;
 use vector_bodies::lists::values_so;
 use vector_bytes::{i64_at, part, u8_at, u16_at, u64_at};
@@ -12,10 +12,10 @@ use vector_bytes::{i64_at, part, u8_at, u16_at, u64_at};
 // Bytes that hold the image of a full table.
 const ROOM: usize = 73760;
 
-fn last_so(b: &[u8], last: LastRecorded) -> bool {
+fn last_so(b: &[u8], last: Option<Second>) -> bool {
     match last {
-        LastRecorded::Never => u8_at(b, 2) == 0,
-        LastRecorded::At(s) => {
+        None => u8_at(b, 2) == 0,
+        Some(s) => {
             let x = s.0;
             (u8_at(b, 2) == 1) & (x == i64_at(b, 3))
         }

@@ -12,23 +12,23 @@ use Rattle.order.proofs.Order.{round}
 use Rattle.tracker.proofs.state.last_wrong.Goals as goal
 
 pub returns-then-n-eq0 : goal.returns-then-n-eq0
-returns-then-n-eq0 c = rw (c.in-At.is, eq-eqb _ _ c.if-n-eq0.true)
+returns-then-n-eq0 c = rw (c.in-Some.is, eq-eqb _ _ c.if-n-eq0.true)
 
 pub returns-then-out_of_domain : goal.returns-then-out_of_domain
 returns-then-out_of_domain c =
-    let x = c.in-At.s.0 in
+    let x = c.in-Some.s.0 in
     let r : to_z w64 (of_z w64 x) ≡ x = search rules in
     let e : outside x ≡ true = rw (← r) (sym c.out_of_domain.ensures ∙ c.if-out_of_domain.true) in
-    rw (c.in-At.is, ne_eqb _ _ c.if-n-eq0.false, e)
+    rw (c.in-Some.is, ne_eqb _ _ c.if-n-eq0.false, e)
 
-pub returns-in-Never : goal.returns-in-Never
-returns-in-Never c = rw c.in-Never.is
+pub returns-in-None : goal.returns-in-None
+returns-in-None c = rw c.in-None.is
 
 pub returns-else-out_of_domain : goal.returns-else-out_of_domain
 returns-else-out_of_domain c =
-    let x = c.in-At.s.0 in
+    let x = c.in-Some.s.0 in
     let a = c.args in
     let r : to_z w64 (of_z w64 x) ≡ x = search rules in
     let q : to_z w64 (of_z w64 (get_or a.secs.now (a.n - 1) (pos 0))) ≡ get_or a.secs.now (a.n - 1) (pos 0) = round _ c.result-1.given in
     let e : outside x ≡ false = rw (← r) (sym c.out_of_domain.ensures ∙ c.if-out_of_domain.false) in
-    rw (c.in-At.is, ne_eqb _ _ c.if-n-eq0.false, e, r, q)
+    rw (c.in-Some.is, ne_eqb _ _ c.if-n-eq0.false, e, r, q)
