@@ -2,7 +2,7 @@
 use mathlib.Core.Path.{◌≡◌, refl, sym, ◌∙◌, ap, subst}
 use mathlib.Core.Logic.{⊎_elim}
 use mathlib.Core.List.{List, [], ◌∷◌, append_assoc}
-use Prim.Native.Nat.{ℕ, suc, ◌+◌, ◌-◌, ◌/◌, ◌≤◌, ◌<◌}
+use Prim.Native.Nat.{ℕ, suc, ◌+◌, ◌-◌, ◌*◌, ◌/◌, ◌≤◌, ◌<◌}
 use native.Mathlib.Nat.{eq-or-lt_of_le}
 use native.Mathlib.Omega.{arith}
 use lib.ListN.{length, get_or, take, drop, set, length-set, length-append, length-drop, get_or-append}
@@ -13,26 +13,25 @@ use Rattle.keeping.specs.Keep.{evens, appended, thinned}
 use Rattle.keeping.proofs.Thinned.{get_d_evens, length-evens, appended-length, appended_old, appended-new, thinned_not, thinned-evens}
 
 module _ {A : Type 0} (d : A) where
-  -- in l the first j positions hold what stood at the even positions of xs before i, and the others what stood there
-  pub record Halving (xs l : List A) (j i : ℕ) : Type 0 where
+  -- in l the first j positions hold what stood at the even positions of xs, and the others what stood there
+  pub record Halving (xs l : List A) (j : ℕ) : Type 0 where
     pub same : length l ≡ length xs
-    pub twice : i ≡ j + j
     pub done : (k : ℕ) → k < j → get_or l k d ≡ get_or xs (k + k) d
     pub rest : (k : ℕ) → j ≤ k → get_or l k d ≡ get_or xs k d
 
-  pub halving_start : (xs : List A) → Halving xs xs 0 0
-  halving_start xs = record { same = refl; twice = refl; done = λ k h. absurd (omega arith); rest = λ k h. refl }
+  pub halving_start : (xs : List A) → Halving xs xs 0
+  halving_start xs = record { same = refl; done = λ k h. absurd (omega arith); rest = λ k h. refl }
 
-  pub halving_more : (xs l : List A) (j i : ℕ) → j < length l → Halving xs l j i → Halving xs (set l j (get_or l i d)) (j + 1) (i + 2)
-  halving_more xs l j i h H = record {
-    same = length-set l j (get_or l i d) ∙ H.same;
-    twice = omega (arith, H.twice);
+  pub halving_more : (xs l : List A) (j : ℕ) → j < length l → Halving xs l j → Halving xs (set l j (get_or l (2 * j) d)) (j + 1)
+  halving_more xs l j h H = record {
+    same = length-set l j (get_or l (2 * j) d) ∙ H.same;
     done = λ k p.
         let q : k ≤ j = omega arith in
-        ⊎_elim (λ (e : k ≡ j). rw (e, ← H.twice) (get_or-set_same l j (get_or l i d) d h ∙ H.rest i (omega (arith, H.twice))))
-        (λ (b : k < j). get_or-set_other l j k (get_or l i d) d (λ (e : k ≡ j). omega arith) ∙ H.done k b)
+        ⊎_elim
+        (λ (e : k ≡ j). rw e (get_or-set_same l j (get_or l (2 * j) d) d h ∙ H.rest (2 * j) (omega arith) ∙ ap (λ (m : ℕ). get_or xs m d) (omega arith)))
+        (λ (b : k < j). get_or-set_other l j k (get_or l (2 * j) d) d (λ (e : k ≡ j). omega arith) ∙ H.done k b)
         (eq-or-lt_of_le q);
-    rest = λ k p. get_or-set_other l j k (get_or l i d) d (λ (e : k ≡ j). omega arith) ∙ H.rest k (omega arith);
+    rest = λ k p. get_or-set_other l j k (get_or l (2 * j) d) d (λ (e : k ≡ j). omega arith) ∙ H.rest k (omega arith);
   }
 
   module _ (xs f : List A) (n : ℕ) (x : A) (fit : n ≤ length xs) (some : 0 < length xs) (long : length f ≡ length xs)
@@ -72,22 +71,19 @@ module _ {A : Type 0} (d : A) where
         rw (thinned-evens n xs x fit cap full)
         (ext_get_or d f (over halves xs) (long ∙ sym (length-append halves (drop (length halves) xs) ∙ rw (length-drop (length halves) xs) (omega (arith, halves-length)))) (λ i h. each i))
 
-  module _ (xs l : List A) (n j i cap : ℕ) (x : A) (fit : n ≤ length xs) (some : 0 < length xs) (full : cap ≤ n) (H : Halving xs l j i) where
-    -- the loop ended at the new element, which has an even position
-    pub ended_even : i ≡ n → set l j x ≡ over (thinned cap (appended n xs x)) xs
+  module _ (xs l : List A) (n j cap : ℕ) (x : A) (fit : n ≤ length xs) (some : 0 < length xs) (full : cap ≤ n) (H : Halving xs l j) where
+    -- the new element has an even position
+    pub ended_even : j + j ≡ n → set l j x ≡ over (thinned cap (appended n xs x)) xs
     ended_even e =
-        let two = H.twice in
         halved xs (set l j x) n x fit some (length-set l j x ∙ H.same)
         (λ k h. get_or-set_other l j k x d (λ (q : k ≡ j). omega arith) ∙ H.done k (omega arith))
         (λ k h. let q : k ≡ j = omega arith in rw q (get_or-set_same l j x d (omega (arith, H.same))))
         (λ k h. get_or-set_other l j k x d (λ (q : k ≡ j). omega arith) ∙ H.rest k (omega arith))
         cap full
 
-    -- the loop ended past it: the new element does not stay
-    pub ended-odd : n < i → i ≤ n + 1 → l ≡ over (thinned cap (appended n xs x)) xs
-    ended-odd h h' =
-        let two = H.twice in
-        halved xs l n x fit some H.same (λ k p. H.done k (omega arith)) (λ k p. absurd (omega arith)) (λ k p. H.rest k (omega arith)) cap full
+    -- an odd one: it does not stay
+    pub ended-odd : j + j ≡ n + 1 → l ≡ over (thinned cap (appended n xs x)) xs
+    ended-odd e = halved xs l n x fit some H.same (λ k p. H.done k (omega arith)) (λ k p. absurd (omega arith)) (λ k p. H.rest k (omega arith)) cap full
 
 -- room for one more
 pub added : {A : Type 0} (xs : List A) (n cap : ℕ) (x : A) → n < cap → n < length xs → set xs n x ≡ over (thinned cap (appended n xs x)) xs

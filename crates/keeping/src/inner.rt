@@ -10,46 +10,24 @@ const FIRST_KEPT: usize = 0;
 
 const STEP: usize = 2;
 
-// Gives how many pairs stay, of n and one more. Both arrays keep as many, so one of the two tells it; the sequences
-// come first, and whether there is room for one more has been tested here.
-pub fn seq_keep(seqs: &mut [u64], n: usize, capacity: usize, q: u64) -> usize
-    requires { (n ≤ length seqs.old) × (capacity ≤ length seqs.old) × (0 < length seqs.old) }
+// Gives how many elements stay, of n and one more. A pair's sequence and its second each go to an array of their own, and both
+// arrays keep as many.
+pub fn keep<T: Copy>(items: &mut [T], n: usize, capacity: usize, item: T) -> usize
+    requires { (n ≤ length items.old) × (capacity ≤ length items.old) × (0 < length items.old) }
     ensures count { result ≡ count_with capacity n }
-    ensures seqs { seqs.new ≡ over (thinned capacity (appended n seqs.old q)) seqs.old }
+    ensures items { items.new ≡ over (thinned capacity (appended n items.old item)) items.old }
 {
     if n < capacity {
-        seqs[n] = q;
+        items[n] = item;
         return n + 1;
     }
-    let mut j = 0;
-    let mut i = FIRST_KEPT;
-    while i < n {
-        seqs[j] = seqs[i];
-        j += 1;
-        i += STEP;
+    let half = n / STEP;
+    let kept = n.div_ceil(STEP);
+    for j in 0..kept {
+        items[j] = items[FIRST_KEPT + STEP * j];
     }
-    if i == n { // n is even: the new one stays
-        seqs[j] = q;
+    if half == kept { // n is even: the new one stays
+        items[kept] = item;
     }
-    n / 2 + 1
-}
-
-pub fn sec_keep(secs: &mut [i64], n: usize, capacity: usize, s: i64)
-    requires { (n ≤ length secs.old) × (capacity ≤ length secs.old) × (0 < length secs.old) }
-    ensures { secs.new ≡ over (thinned capacity (appended n secs.old s)) secs.old }
-{
-    if n < capacity {
-        secs[n] = s;
-        return;
-    }
-    let mut j = 0;
-    let mut i = FIRST_KEPT;
-    while i < n {
-        secs[j] = secs[i];
-        j += 1;
-        i += STEP;
-    }
-    if i == n {
-        secs[j] = s;
-    }
+    half + 1
 }

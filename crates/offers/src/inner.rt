@@ -7,7 +7,7 @@ ghost use Rattle.offers.specs.Offer.{offering};
 ghost use Rattle.offers.specs.Inner.{told_came, state_after, RoomFor};
 
 use crate::steps;
-use keeping::inner as keep;
+use keeping::inner::keep;
 use limits::inner as checks;
 use skipping::inner as skip;
 use totals::Fate;
@@ -57,8 +57,8 @@ pub fn offer_good(
         return Came::PairRefused(Refusal::OfferedDrops);
     }
     let capacity = table.capacity as usize;
-    let count = keep::seq_keep(seqs, n, capacity, q);
-    keep::sec_keep(secs, n, capacity, s);
+    let count = keep(seqs, n, capacity, q);
+    keep(secs, n, capacity, s);
     Came::Recorded(count)
 }
 

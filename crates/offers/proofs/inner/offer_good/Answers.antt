@@ -57,8 +57,8 @@ returns-then-low_seq c =
     let p = passed (goal.at.returns-then-low_seq c).After-low_seq in
     left_by_lem (whole a.table a.seqs.now a.secs.now) a.seq a.ts (rw (c.requires, p.0, p.1, p.2, p.3, sym c.low_seq.ensures ∙ c.if-low_seq.true)) refl refl
 
-pub sec_keep-requires : goal.sec_keep-requires
-sec_keep-requires c =
+pub keep-requires : goal.keep-requires
+keep-requires c =
     let a = (fine c.args.table c.args.seqs.now c.args.secs.now c.requires).state in
     (count-secs _ _ _ a, (capacity-secs _ _ _ a).0, (capacity-secs _ _ _ a).1)
 
@@ -70,6 +70,6 @@ returns c =
     let state = (fine a.table a.seqs.now a.secs.now c.requires).state in
     let length-is = thinned-length a.table.count a.seqs.now a.seq.0 (count-seqs _ _ _ state) a.table.capacity in
     left_by_lem (whole a.table a.seqs.now a.secs.now) a.seq a.ts
-    (rw (c.requires, p.0, p.1, p.2, p.3, sym c.low_seq.ensures ∙ c.if-low_seq.false, length-is, ← c.seq_keep-count.ensures.count))
-    c.seq_keep-count.ensures.seqs
-    (rw r at c.sec_keep.ensures)
+    (rw (c.requires, p.0, p.1, p.2, p.3, sym c.low_seq.ensures ∙ c.if-low_seq.false, length-is, ← c.keep-count.ensures.count))
+    c.keep-count.ensures.items
+    (rw r at c.keep.ensures.items)
