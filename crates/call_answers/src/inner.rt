@@ -23,7 +23,7 @@ use lookup::{FoundSeq, FoundTs};
 use questions::Asked;
 use saving::Saved;
 use sheets::{SeqSheetBack, TsSheetBack};
-use signed::{Extended, as_unsigned};
+use signed::{WidthOutside, as_unsigned};
 use tracker::Refusal;
 
 pub fn of_read(read: BitsRead) -> Answer
@@ -46,12 +46,12 @@ pub fn of_written(written: BitsWritten) -> Answer
     }
 }
 
-pub fn of_extension(extended: Extended) -> Answer
+pub fn of_extension(extended: Result<i64, WidthOutside>) -> Answer
     ensures { result ≡ of_signed (told_extend extended) }
 {
     match extended {
-        Extended::Value(z) => answer(0, as_unsigned(z), 0, 0),
-        Extended::Width => answer(23, 0, 0, 0),
+        Ok(z) => answer(0, as_unsigned(z), 0, 0),
+        Err(_) => answer(23, 0, 0, 0),
     }
 }
 

@@ -4,7 +4,6 @@ ghost use Rattle.gorilla.specs.Rows.{widths, row_of, decoded, strict};
 ghost use Rattle.gorilla.specs.Inner.{advanced, followed};
 
 use crate::{Coded, Row, Track};
-use signed::Extended;
 
 // Indicates how many bits to read given the Gorilla prefix.
 pub const GORILLA_PREFIX_BYTES: [u8; 5] = [0, 7, 9, 12, 32];
@@ -93,8 +92,5 @@ pub fn diff_of(raw: u64, width: u8) -> i64
     requires { (raw < 2 ^ 32) × (width ≤ 32) }
     ensures { result ≡ decoded width raw }
 {
-    match signed::sign_extend(raw as u32, width) {
-        Extended::Value(d) => d,
-        Extended::Width => 0,
-    }
+    signed::sign_extend(raw as u32, width).unwrap_or(0)
 }

@@ -1,16 +1,15 @@
 -- No second outcome fits: extensions of which the same is told are the same. Assumes nothing.
-use Rattle.std.proofs.Common.{◌≡◌, ℕ, sym, refl, ◌∙◌}
+use Rattle.std.proofs.Common.{◌≡◌, ℕ, ℤ, Result, Ok, Err, sym, refl, ◌∙◌}
 use Rattle.told.proofs.Unique.{given_not_refused}
 use Rattle.signed.specs.Extend.{told_extend, extend_rule}
-use Rattle.signed.specs.declared.Extended.{Extended}
-use Rattle.signed.specs.declared.Extended.TheVariants as ev
+use Rattle.signed.specs.declared.WidthOutside.{WidthOutside}
 
-extend-told : (a b : Extended) → told_extend a ≡ told_extend b → a ≡ b
-extend-told (ev.Value x) (ev.Value y) h = cc
-extend-told (ev.Value x) ev.Width h = given_not_refused h
-extend-told ev.Width (ev.Value y) h = given_not_refused (sym h)
-extend-told ev.Width ev.Width h = refl
+extend-told : (a b : Result ℤ WidthOutside) → told_extend a ≡ told_extend b → a ≡ b
+extend-told (Ok x) (Ok y) h = cc
+extend-told (Ok x) (Err e) h = given_not_refused h
+extend-told (Err e) (Ok y) h = given_not_refused (sym h)
+extend-told (Err e) (Err f) h = refl
 
 -- `sign_extend`
-pub one-extension : (v w : ℕ) (a b : Extended) → told_extend a ≡ extend_rule v w → told_extend b ≡ extend_rule v w → a ≡ b
+pub one-extension : (v w : ℕ) (a b : Result ℤ WidthOutside) → told_extend a ≡ extend_rule v w → told_extend b ≡ extend_rule v w → a ≡ b
 one-extension v w a b h k = extend-told a b (h ∙ sym k)

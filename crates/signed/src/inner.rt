@@ -9,7 +9,7 @@ pub(crate) fn two_to(width: u8) -> u64
     requires { width ≤ 63 }
     ensures { result ≡ 2 ^ width }
 {
-    1u64 << width as u64
+    1u64 << width
 }
 
 // The low `width` bits of a number, as they stand.

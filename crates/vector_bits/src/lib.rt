@@ -2,7 +2,7 @@
 #![tactic(auto)]
 
 use bits::{BitsRead, BitsWritten, Place};
-use signed::Extended;
+use signed::WidthOutside;
 use std::num::wrapping_add_usize as after;
 use vector_bytes::{begins, part, u8_at, u32_at, u64_at};
 use vector_tally as tally;
@@ -106,12 +106,12 @@ pub fn reads(b: &[u8], tally: &mut [u64; tally::PLACES]) {
 }
 
 // Whether an extension is the signed number whose low 32 bits are `low`.
-fn extended_so(extended: Extended, low: u64) -> bool {
+fn extended_so(extended: Result<i64, WidthOutside>, low: u64) -> bool {
     match extended {
-        Extended::Value(v) => {
+        Ok(v) => {
             signed::as_unsigned(v) == std::num::wrapping_sub_u64(low ^ 2147483648, 2147483648)
         }
-        Extended::Width => false,
+        Err(_) => false,
     }
 }
 
