@@ -1,18 +1,15 @@
 -- What a date-time of the grammar says. Assumes nothing.
 use mathlib.Core.Path.{◌≡◌, refl, ap, ◌∙◌}
 use mathlib.Core.Bool.{Bool, true, false}
-use mathlib.Core.List.{[], ◌∷◌}
 use Prim.Native.Nat.{ℕ, zero, suc, ◌+◌, ◌-◌, ◌*◌, ◌^◌, ◌≤◌, ◌<◌}
 use native.Mathlib.Omega.{arith}
-use borrow.Author.Tests.{le-leb, lt-leb, leb-true, lt-ltb}
+use borrow.Author.Tests.{leb-true, lt-ltb}
 use lib.Dec.{leb}
-use lib.IntN.{ℤ, pos, negsuc, neg_ℤ, ◌-ℤ◌}
+use lib.IntN.{pos, negsuc, neg_ℤ, ◌-ℤ◌}
 use lib.Signed.{mag}
 use mir.Syntax.{w64}
 use mir.Val.{SFits, to_z, of_z}
 use mir.Facts.{to_z-of_z, to_z_pos}
-use Rattle.told.specs.Told.{gave, refused}
-use Rattle.limits.specs.Domain.{outside}
 use Rattle.order.proofs.Domain.{inside_mag, mag_diff}
 use Rattle.calendar.specs.declared.Date.{Date}
 use Rattle.calendar.specs.Calendar.{second_of, is_date}
@@ -26,14 +23,6 @@ abbrev pub seconds : Zone → ℕ
 seconds z = (z.hours * 60 + z.minutes) * 60
 
 module _ (z : Zone) where
-  pub offset_yes : z.hours ≤ 23 → leb z.minutes 59 ≡ is_offset z
-  unfolding is_offset
-  offset_yes h = rw (le-leb z.hours 23 h)
-
-  pub offset_no : 23 < z.hours → leb z.hours 23 ≡ is_offset z
-  unfolding is_offset
-  offset_no h = rw (lt-leb z.hours 23 h)
-
   pub offset-parts : is_offset z ≡ true → (z.hours ≤ 23) × (z.minutes ≤ 59)
   unfolding is_offset
   offset-parts e =
@@ -78,15 +67,7 @@ module _ (z : Zone) (h : z.hours ≤ 23) (k : z.minutes ≤ 59) where
 
 -- ---- the second in UTC
 module _ (d : Date) (z : Zone) where
-  pub no_date : is_date d ≡ false → refused (26 ∷ []) ≡ judged (record { date = d; zone = z })
-  unfolding judged
-  no_date e = rw e
-
   module _ (h : is_date d ≡ true) where
-    pub no_offset : is_offset z ≡ false → refused (26 ∷ []) ≡ judged (record { date = d; zone = z })
-    unfolding judged
-    no_offset e = rw (h, e)
-
     module _ (k : is_offset z ≡ true) where
       pub both : if_inside (second_of d -ℤ offset_of z) ≡ judged (record { date = d; zone = z })
       unfolding judged
@@ -94,9 +75,3 @@ module _ (d : Date) (z : Zone) where
 
       pub utc_fits : SFits w64 (second_of d -ℤ offset_of z)
       utc_fits = record { sfits = omega (arith, inside_mag (second_of d) (calendar.in_domain d h), offset_mag z k, mag_diff (second_of d) (offset_of z)) }
-
-pub not_inside : (s : ℤ) → outside s ≡ true → refused (27 ∷ []) ≡ if_inside s
-not_inside s e = rw e
-
-pub is_inside : (s : ℤ) → outside s ≡ false → gave s ≡ if_inside s
-is_inside s e = rw e

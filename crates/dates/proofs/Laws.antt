@@ -2,6 +2,7 @@
 use mathlib.Core.Path.{◌≡◌, refl, ap, ◌∙◌, sym, subst}
 use mathlib.Core.Bool.{Bool, true, false, cond, ◌&&◌}
 use mathlib.Core.List.{List, [], ◌∷◌}
+use Rattle.std.specs.Prelude.{Ok}
 use Prim.Native.Nat.{ℕ, suc, ◌-◌}
 use native.Mathlib.Omega.{arith}
 use borrow.Author.Tests.{lt-ltb}
@@ -33,7 +34,6 @@ use Rattle.date_reader.proofs.Written.{two-read, four-read}
 use Rattle.dates.specs.Read.{is_offset, offset_of, utc_of, if_inside, judged, judged_text, read_date}
 use Rattle.dates.specs.Write.{write_date, LeavesDate, WritesDate}
 use Rattle.dates.specs.Laws.{Says, Dates}
-use Rattle.dates.specs.declared.DateWritten.TheVariants.{Written}
 
 -- ---- a text that was written, read
 abbrev utc : Zone
@@ -98,7 +98,7 @@ twenty : (z : ℤ) (room n : ℕ) → gave n ≡ write_date z room → n ≡ 20
 unfolding write_date room_rule
 twenty z room n e = sym (same_gift (passed (ltb room 20) _ (gave 20) n (passed (outside z) _ _ n (sym e)).1).1)
 
-written_read : (z : ℤ) (out out' : List ℕ) (n : ℕ) → WritesDate z out (Written n) out' → read_date (take n out') ≡ gave z
+written_read : (z : ℤ) (out out' : List ℕ) (n : ℕ) → WritesDate z out (Ok n) out' → read_date (take n out') ≡ gave z
 written_read z out out' n h =
     let l : LeavesDate (gave n) z out out' = subst (λ t. LeavesDate t z out out') (sym h.0) h.1 in
     let e : n ≡ length l.0 = twenty z (length out) n h.0 ∙ sym (dated-length z l.0 l.1) in

@@ -5,6 +5,7 @@ use mathlib.Core.List.{List, [], ◌∷◌, ◌++◌}
 use Prim.Native.Nat.{ℕ, ◌+◌, ◌≤◌, ◌<◌}
 use native.Mathlib.Omega.{arith}
 use lib.IntN.{ℤ}
+use Rattle.std.specs.Prelude.{Ok, Err}
 use lib.ListN.{length, drop}
 use lib.Seq.{sets-eq}
 use Rattle.told.specs.Told.{Told, gave, refused}
@@ -15,7 +16,6 @@ use Rattle.text.specs.Inner.{Put}
 use Rattle.date_writer.specs.Inner.{date_text}
 use Rattle.date_writer.proofs.Texts.{dated_text, dated-length}
 use Rattle.dates.specs.declared.Refusal.TheVariants as refusal
-use Rattle.dates.specs.declared.DateWritten.TheVariants as written
 use Rattle.dates.specs.Write.{write_date, LeavesDate, WritesDate}
 
 module _ (z : ℤ) (out : List ℕ) where
@@ -27,7 +27,7 @@ module _ (z : ℤ) (out : List ℕ) where
   unfolding write_date
   rule_outside h = rw h
 
-  pub writes_outside : outside z ≡ true → WritesDate z out (written.Refused refusal.Outside) out
+  pub writes_outside : outside z ≡ true → WritesDate z out (Err refusal.Outside) out
   writes_outside h = (rule_outside h, by_rule (refused (27 ∷ [])) out (rule_outside h) refl)
 
   module _ (h : outside z ≡ false) where
@@ -35,12 +35,12 @@ module _ (z : ℤ) (out : List ℕ) where
     unfolding write_date
     rule_room = rw h
 
-    pub writes_short : length out < 20 → WritesDate z out (written.Refused (refusal.Room 20)) out
+    pub writes_short : length out < 20 → WritesDate z out (Err (refusal.Room 20)) out
     writes_short k =
         let e = no_room 20 (length out) k ∙ rule_room in
         (e, by_rule (refused (21 ∷ 20 ∷ [])) out e refl)
 
-    pub writes_there : 20 ≤ length out → (out' : List ℕ) (n : ℕ) → Put out 0 (date_text z) out' n → WritesDate z out (written.Written n) out'
+    pub writes_there : 20 ≤ length out → (out' : List ℕ) (n : ℕ) → Put out 0 (date_text z) out' n → WritesDate z out (Ok n) out'
     writes_there k out' n p =
         let d = dated_text z h in
         let l : length (date_text z) ≡ 20 = dated-length z (date_text z) d in

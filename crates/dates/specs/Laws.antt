@@ -1,5 +1,5 @@
 -- What holds of dates and their texts. Proved in proofs/Laws.antt.
-use Rattle.std.specs.Prelude.{ℕ, ◌≤◌, ◌≡◌, ◌↔◌, true, false, List, [], ◌++◌, ℤ, length, take}
+use Rattle.std.specs.Prelude.{ℕ, ◌≤◌, ◌≡◌, ◌↔◌, true, false, List, [], ◌++◌, Ok, ℤ, length, take}
 use Rattle.std.specs.Int.Signed.{lt_z}
 use Rattle.told.specs.Told.{gave}
 use Rattle.limits.specs.Domain.{outside}
@@ -12,7 +12,6 @@ use Rattle.date_reader.specs.Grammar.{Stamp, date_time}
 use Rattle.date_reader.specs.Fraction.{all_digits, other_first}
 use Rattle.dates.specs.Read.{is_offset, utc_of, read_date}
 use Rattle.dates.specs.Write.{WritesDate}
-use Rattle.dates.specs.declared.DateWritten.TheVariants.{Written}
 
 -- the whole of s is a date-time of the grammar, its date, time of day and offset are there, and z, in the domain, is its second in UTC
 pub record Says (s : List ℕ) (z : ℤ) : Type 0 where
@@ -35,7 +34,7 @@ pub record Dates : Type 0 where
   -- the order of texts, byte by byte, is the order of seconds
   pub order : (z w : ℤ) (t u : List ℕ) → Dated z t → Dated w u → before t u ≡ lt_z z w
   -- what `write_date` leaves in any output reads back
-  pub written : (z : ℤ) (out out' : List ℕ) (n : ℕ) → WritesDate z out (Written n) out' → read_date (take n out') ≡ gave z
+  pub written : (z : ℤ) (out out' : List ℕ) (n : ℕ) → WritesDate z out (Ok n) out' → read_date (take n out') ≡ gave z
   -- a fraction changes nothing: after the 19 bytes of date and time of day, a point and one to nine digits read as if they were not there
   pub fraction : (head ds tail : List ℕ) → length head ≡ 19 → 1 ≤ length ds → length ds ≤ 9 → all_digits ds ≡ true → other_first tail ≡ true
       → read_date (head ++ (ascii "." ++ ds ++ tail)) ≡ read_date (head ++ tail)

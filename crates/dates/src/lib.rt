@@ -31,39 +31,27 @@ pub enum Refusal {
     Room(usize),
 }
 
-#[derive(Clone, Copy)]
-pub enum DateWritten {
-    // the bytes that were written: 20
-    Written(usize),
-    Refused(Refusal),
-}
-
-#[derive(Clone, Copy)]
-pub enum DateRead {
-    At(Second),
-    Refused(Refusal),
-}
-
-// Writes `YYYY-MM-DDTHH:MM:SSZ` at the start of `out`, and no byte past it.
-pub fn write_date(second: Second, out: &mut [u8]) -> DateWritten
+// Writes `YYYY-MM-DDTHH:MM:SSZ` at the start of `out`, and no byte past it, and answers how many bytes it wrote: 20.
+#[tactic(auto, using(crate::proofs::Writing::writes_outside, crate::proofs::Writing::writes_short, crate::proofs::Writing::writes_there))]
+pub fn write_date(second: Second, out: &mut [u8]) -> Result<usize, Refusal>
     ensures { WritesDate second.0 out.old result out.new }
 {
     let s = second.0;
     if out_of_domain(s) {
-        return DateWritten::Refused(Refusal::Outside);
+        return Err(Refusal::Outside);
     }
     if out.len() < DATE_BYTES {
-        return DateWritten::Refused(Refusal::Room(DATE_BYTES));
+        return Err(Refusal::Room(DATE_BYTES));
     }
-    DateWritten::Written(put_date(out, 0, s))
+    Ok(put_date(out, 0, s))
 }
 
 // Reads the whole of `bytes` as one date-time. A fraction of a second is left out.
-pub fn read_date(bytes: &[u8]) -> DateRead
+pub fn read_date(bytes: &[u8]) -> Result<Second, Refusal>
     ensures { told_read result ≡ read_date bytes.now }
 {
     match stamp_of(bytes) {
         StampRead::At(date, zone) => judge(date, zone),
-        StampRead::NotTheGrammar => DateRead::Refused(Refusal::NotTheGrammar),
+        StampRead::NotTheGrammar => Err(Refusal::NotTheGrammar),
     }
 }
