@@ -46,7 +46,7 @@ state_with table count ts = record {
   count = count;
   capacity = table.capacity;
   interval_secs = table.interval_secs;
-  last_recorded_ts = At ts;
+  last_recorded_ts = Some ts;
   totals = one_more fate.Recorded table.totals;
 }
 

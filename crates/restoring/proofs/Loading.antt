@@ -49,7 +49,7 @@ same-last xs ys n e = go (eqb n 0) refl
     go true f = refl
     go false f =
         let l : n - 1 < n = by_zero n f in
-        ap (λ (z : ℤ). At (record { 0 = z })) (kept_at n xs ys (n - 1) (pos 0) e l)
+        ap (λ (z : ℤ). Some (record { 0 = z })) (kept_at n xs ys (n - 1) (pos 0) e l)
 
 -- pairs p over whatever the arrays held
 module _ (old-seqs : List ℕ) (old-secs : List ℤ) (p : Pairs) (n : ℕ) (a : length p.seqs ≡ n) (b : length p.secs ≡ n) where
