@@ -172,9 +172,6 @@ next-byte s i k h =
     let e : i * 8 + k * 8 ≡ (i + k) * 8 = omega arith in
     bits_at-add s (i * 8) (k * 8) 8 ∙ ap (λ (u : ℕ). bits_at s (i * 8) (k * 8) * 256 + u) (ap (λ (u : ℕ). bits_at s u 8) e ∙ one_byte s (i + k) h)
 
-pub two-halves : (s : List ℕ) (i : ℕ) → bits_at s (i * 8) 64 ≡ bits_at s (i * 8) 32 * 2 ^ 32 + bits_at s ((i + 4) * 8) 32
-two-halves s i = let e : i * 8 + 32 ≡ (i + 4) * 8 = omega arith in bits_at-add s (i * 8) 32 32 ∙ ap (λ (u : ℕ). bits_at s (i * 8) 32 * 2 ^ 32 + bits_at s u 32) e
-
 -- ---- whole bytes written
 pub byte-set : (s : List ℕ) (i x : ℕ) → ((j : ℕ) → get_or s j 0 < 256) → x < 256 → (j : ℕ) → get_or (set s i x) j 0 < 256
 byte-set [] i x b h j = b j

@@ -1,18 +1,6 @@
-// The steps. All but `wide` and `least` ask what their caller has tested.
+// The steps. Each asks what its caller has tested.
 ghost use Rattle.std.specs.Prelude.{◌≡◌, ◌+◌, ◌*◌, ◌-◌, ◌/◌, ◌%◌, ◌^◌, ◌≤◌, ◌<◌, min, length};
 ghost use Rattle.raw_bits.specs.Inner.{bits_at, put_bits};
-
-pub fn wide(x: u8) -> u64
-    ensures { result ≡ x }
-{
-    x as u64
-}
-
-fn least(a: u8, b: u8) -> u8
-    ensures { result ≡ min a b }
-{
-    if a < b { a } else { b }
-}
 
 // The `t` bits of `x` above its `low` lowest.
 pub fn field(x: u64, low: u8, t: u8) -> u64
@@ -22,28 +10,21 @@ pub fn field(x: u64, low: u8, t: u8) -> u64
     (x >> low) & ((1u64 << t) - 1)
 }
 
-// One byte more. Written with `|`, eight of them become one load.
-fn join(v: u64, x: u8) -> u64
-    requires { v < 2 ^ 56 }
-    ensures { result ≡ v * 256 + x }
-{
-    (v << 8) | wide(x)
-}
-
-// Four bytes as one number, the first the most significant.
-fn half_at(s: &[u8], i: usize) -> u64
-    requires { i + 4 ≤ length s.now }
-    ensures { result ≡ bits_at s.now (i * 8) 32 }
-{
-    join(join(join(wide(s[i]), s[i + 1]), s[i + 2]), s[i + 3])
-}
-
-// Eight bytes as one number.
+// Eight bytes as one number, the first the most significant: one load.
 pub fn word_at(s: &[u8], i: usize) -> u64
     requires { i + 8 ≤ length s.now }
     ensures { result ≡ bits_at s.now (i * 8) 64 }
 {
-    (half_at(s, i) << 32) | half_at(s, i + 4)
+    u64::from_be_bytes([
+        s[i],
+        s[i + 1],
+        s[i + 2],
+        s[i + 3],
+        s[i + 4],
+        s[i + 5],
+        s[i + 6],
+        s[i + 7],
+    ])
 }
 
 // `width` bits as a number: of each byte as many as it still has.
@@ -56,9 +37,9 @@ pub fn take_bits(s: &[u8], from: usize, first: u8, width: u8) -> u64
     let mut v: u64 = 0;
     let mut k: u8 = 0;
     while k < width {
-        let t = least(8 - bit, width - k);
-        v = (v << t) + field(wide(s[byte]), 8 - (bit + t), t);
-        byte += ((bit + t) / 8) as usize;
+        let t = (8 - bit).min(width - k);
+        v = (v << t) + field(u64::from(s[byte]), 8 - (bit + t), t);
+        byte += usize::from((bit + t) / 8);
         bit = (bit + t) % 8;
         k += t;
     }
@@ -71,7 +52,7 @@ fn merge(x: u8, bit: u8, t: u8, chunk: u64) -> u8
     ensures { result ≡ x / 2 ^ (8 - bit) * 2 ^ (8 - bit) + chunk * 2 ^ (8 - (bit + t)) }
 {
     let room = 8 - bit;
-    (((wide(x) >> room) << room) + (chunk << (8 - (bit + t)))) as u8
+    (((u64::from(x) >> room) << room) + (chunk << (8 - (bit + t)))) as u8
 }
 
 // The low `width` bits of a value: the first byte, the whole bytes, the last byte.
@@ -79,7 +60,7 @@ pub fn put_bits(buf: &mut [u8], from: usize, first: u8, value: u64, width: u8)
     requires { (first < 8) × (width ≤ 64) × (from * 8 + first + width ≤ length buf.old * 8) }
     ensures { buf.new ≡ put_bits buf.old (from * 8 + first) value width }
 {
-    let t = least(8 - first, width);
+    let t = (8 - first).min(width);
     if t == 0 {
         return;
     }

@@ -3,7 +3,6 @@ ghost use Rattle.std.specs.Prelude.{◌≤◌, ◌<◌, ◌+◌, ◌*◌, ◌^�
 ghost use Rattle.text_reader.specs.Inner.{DigitAt, ByteAt, WordAt, Grown, DigitsAt};
 
 use crate::Digits;
-use raw_bits::inner::wide;
 
 // The digit at a place; 10 where there is none.
 pub fn digit_at(s: &[u8], at: usize) -> u64
@@ -12,7 +11,7 @@ pub fn digit_at(s: &[u8], at: usize) -> u64
     if s.len() <= at {
         return 10;
     }
-    let x = wide(s[at]);
+    let x = u64::from(s[at]);
     if x < 48 {
         return 10;
     }

@@ -7,7 +7,7 @@ overflow_add-result-2 c =
     let a = c.args in
     omega (
       arith,
-      merge_eq a.x a.bit a.t a.chunk c.wide.ensures c.ranges.x.fits c.requires.0 c.requires.1,
+      merge_eq a.x a.bit a.t a.chunk c.from.ensures c.ranges.x.fits c.requires.0 c.requires.1,
       merge_lt a.x a.bit a.t a.chunk c.ranges.x.fits c.requires.0 c.requires.1,
     )
 
@@ -16,11 +16,11 @@ overflow_cast-result-4 c =
     let a = c.args in
     omega (
       arith,
-      merge_eq a.x a.bit a.t a.chunk c.wide.ensures c.ranges.x.fits c.requires.0 c.requires.1,
+      merge_eq a.x a.bit a.t a.chunk c.from.ensures c.ranges.x.fits c.requires.0 c.requires.1,
       merge_lt a.x a.bit a.t a.chunk c.ranges.x.fits c.requires.0 c.requires.1,
     )
 
 pub returns : goal.returns
 returns c =
     let a = c.args in
-    merge_eq a.x a.bit a.t a.chunk c.wide.ensures c.ranges.x.fits c.requires.0 c.requires.1
+    merge_eq a.x a.bit a.t a.chunk c.from.ensures c.ranges.x.fits c.requires.0 c.requires.1

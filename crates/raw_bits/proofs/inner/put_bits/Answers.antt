@@ -12,7 +12,7 @@ use Rattle.raw_bits.proofs.inner.put_bits.Goals as goal
 use Rattle.raw_bits.proofs.inner.put_bits.Goals.{After-merge-x}
 
 abbrev t_of : After-merge-x → ℕ
-t_of mg = mg.least-t.result
+t_of mg = mg.min-t.result
 
 abbrev rest_of : After-merge-x → ℕ
 rest_of mg = mg.args.width - t_of mg
@@ -28,7 +28,7 @@ Sizes mg = (mg.args.first + t_of mg ≤ 8) × (0 < t_of mg) × (t_of mg ≤ mg.a
 sizes : (mg : After-merge-x) → Sizes mg
 unfolding Sizes
 sizes mg =
-    let e = mg.least-t.ensures in
+    let e = mg.min-t.ensures in
     let n = mg.if-t-eq0.false in
     let p = mg.requires in
     let a : mg.args.first + t_of mg ≤ 8 = omega (arith, e, p) in
@@ -54,11 +54,11 @@ total_is mg =
     put_total mg.args.buf.now (buf_of mg) p mg.args.value (t_of mg) (rest_of mg) ((mg.args.from + 1) * 8) (first_is mg) z.6 ∙ ap (put_bits mg.args.buf.now p mg.args.value) e
 
 pub returns-then-t-eq0 : goal.returns-then-t-eq0
-returns-then-t-eq0 c = put_none _ _ _ _ (omega (arith, c.least-t.ensures, c.if-t-eq0.true, c.requires.0))
+returns-then-t-eq0 c = put_none _ _ _ _ (omega (arith, c.min-t.ensures, c.if-t-eq0.true, c.requires.0))
 
 pub merge-x-requires : goal.merge-x-requires
 merge-x-requires c =
-    (omega (arith, c.least-t.ensures, c.requires.0), subst (λ (u : ℕ). u < 2 ^ c.least-t.result) (sym c.field.ensures) (mod-lt _ (pow_pos c.least-t.result)))
+    (omega (arith, c.min-t.ensures, c.requires.0), subst (λ (u : ℕ). u < 2 ^ c.min-t.result) (sym c.field.ensures) (mod-lt _ (pow_pos c.min-t.result)))
 
 pub loop-left-init : goal.loop-left-init
 unfolding Sizes

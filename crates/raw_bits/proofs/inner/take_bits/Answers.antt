@@ -14,21 +14,21 @@ pub overflow_add-v : goal.overflow_add-v
 overflow_add-v c =
     let l = c.loop-k in
     let a = c.args in
-    let t = c.least-t.result in
+    let t = c.min-t.result in
     omega (
       arith,
-      take-some a.s.now (a.from * 8 + a.first) l.k l.byte l.bit t l.invariant.3 l.invariant.0 (search rules) (search rules) c.wide.ensures c.field.ensures,
+      take-some a.s.now (a.from * 8 + a.first) l.k l.byte l.bit t l.invariant.3 l.invariant.0 (search rules) (search rules) c.from.ensures c.field.ensures,
       bits_at-fits a.s.now (a.from * 8 + a.first) (l.k + t) (omega arith),
     )
 
 pub loop-k-preserved : goal.loop-k-preserved
 loop-k-preserved c =
     let l = c.loop-k in
-    let t = c.least-t.result in (
+    let t = c.min-t.result in (
       search rules,
       search rules,
       search rules,
-      take-some _ _ l.k l.byte l.bit t l.invariant.3 l.invariant.0 (search rules) (search rules) c.wide.ensures c.field.ensures,
+      take-some _ _ l.k l.byte l.bit t l.invariant.3 l.invariant.0 (search rules) (search rules) c.from.ensures c.field.ensures,
     )
 
 pub returns : goal.returns
