@@ -16,7 +16,7 @@ use Rattle.tracker.specs.declared.Seq.{Seq}
 use Rattle.tracker.specs.declared.Second.{Second}
 use Rattle.lookup.specs.declared.FindOption.{FindOption}
 use Rattle.lookup.specs.declared.FindOption.TheVariants.{RoundUp, RoundDown}
-use Rattle.gorilla.specs.Parser.{read, refused}
+use Rattle.gorilla.specs.Parser.{read, refused, Reader, ◌>>=◌, give}
 use Rattle.text_reader.specs.Digits.{is_digit, more_of, digits}
 use Rattle.text_reader.specs.Words.{word}
 use Rattle.text_reader.specs.Inner.{Lacks}
@@ -25,7 +25,6 @@ use Rattle.text_reader.proofs.Numbers.{more_there, more_lacks, some-there}
 use Rattle.question_lines.specs.declared.Question.{Question}
 use Rattle.question_lines.specs.declared.Question.TheVariants.{BySeq, ByTime}
 use Rattle.question_lines.specs.Grammar.{not_the_form, number, seq_number, not_negative, second, ending, by_seq, by_time, question}
-use Rattle.question_lines.specs.Inner.{seq_ended, time_ended}
 use Rattle.question_lines.specs.Laws.{ending_of, line_of, Numbered}
 
 -- ---- a number in decimal
@@ -87,13 +86,23 @@ unfolding is_digit
 ending-other RoundUp rest = refl
 ending-other RoundDown rest = refl
 
--- ---- the line
+-- ---- the line, from after its number on
+seq_ended : Seq → Reader Question
+seq_ended seq = do
+  option ← ending
+  give (BySeq seq option)
+
+time_ended : Second → Reader Question
+time_ended ts = do
+  option ← ending
+  give (ByTime ts option)
+
 seq_line : (t r : List ℕ) (seq : Seq) → seq_number t ≡ read seq r → by_seq (115 ∷ 101 ∷ 113 ∷ 32 ∷ t) ≡ seq_ended seq r
-unfolding by_seq word
+unfolding by_seq word seq_ended
 seq_line t r seq e = then_read _ e
 
 time-line : (t r : List ℕ) (ts : Second) → second t ≡ read ts r → by_time (116 ∷ 105 ∷ 109 ∷ 101 ∷ 32 ∷ t) ≡ time_ended ts r
-unfolding by_time word
+unfolding by_time word time_ended
 time-line t r ts e = then_read _ e
 
 time-other : (t : List ℕ) → by_seq (116 ∷ t) ≡ refused not_the_form
@@ -101,7 +110,7 @@ unfolding by_seq word
 time-other t = refl
 
 pub line_read : (q : Question) → Numbered q → (rest : List ℕ) → question (line_of q ++ rest) ≡ read q rest
-unfolding question
+unfolding question seq_ended time_ended
 line_read (BySeq seq option) h rest =
     let e = ap seq_number (append_assoc (decimal seq.0) (ending_of option) rest) ∙ seq_read (ending_of option ++ rest) (ending-other option rest) seq.0 h in
     or_read _ (seq_line _ (ending_of option ++ rest) seq e ∙ then_read _ (ending-read option rest))

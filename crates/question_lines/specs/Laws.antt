@@ -1,5 +1,5 @@
 -- What holds of questions and their lines. Proved in proofs/Laws.antt.
-use Rattle.std.specs.Prelude.{ℕ, ◌^◌, ◌<◌, ◌≡◌, List, ◌++◌}
+use Rattle.std.specs.Prelude.{ℕ, ◌^◌, ◌<◌, ◌≡◌, List, ◌++◌, Option}
 use Rattle.std.specs.Int.{w64}
 use Rattle.std.proofs.Common.{SFits}
 use Rattle.text.specs.Ascii.{ascii}
@@ -9,7 +9,6 @@ use Rattle.lookup.specs.declared.FindOption.TheVariants.{RoundUp, RoundDown}
 use Rattle.gorilla.specs.Parser.{read}
 use Rattle.question_lines.specs.declared.Question.{Question}
 use Rattle.question_lines.specs.declared.Question.TheVariants.{BySeq, ByTime}
-use Rattle.question_lines.specs.declared.LineRead.{LineRead}
 use Rattle.question_lines.specs.Grammar.{question}
 use Rattle.question_lines.specs.Line.{LineAt}
 
@@ -31,4 +30,4 @@ pub record QuestionLines : Type 0 where
   -- each question has a line: it reads back, and whatever bytes follow it are left as they are
   pub reads_back : (q : Question) → Numbered q → (rest : List ℕ) → question (line_of q ++ rest) ≡ read q rest
   -- no second answer fits what `question_of` promises
-  pub one_line : (s : List ℕ) (a b : LineRead) → LineAt s (question s) a → LineAt s (question s) b → a ≡ b
+  pub one_line : (s : List ℕ) (a b : Option (Question × List ℕ)) → LineAt s (question s) a → LineAt s (question s) b → a ≡ b

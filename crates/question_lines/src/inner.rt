@@ -1,68 +1,39 @@
-// A line taken apart by the grammar, for our own crates. What follows its LF is not looked at.
-ghost use Rattle.std.specs.Prelude.{◌≤◌, length, drop};
+// A line taken apart by the grammar, for our own crates: a question, with what follows its LF, or no line of this form.
+ghost use Rattle.std.specs.Prelude.{◌≡◌};
 ghost use Rattle.question_lines.specs.Grammar.{by_seq, by_time, question};
-ghost use Rattle.question_lines.specs.Line.{LineAt};
-ghost use Rattle.question_lines.specs.Inner.{seq_ended, time_ended};
+ghost use Rattle.question_lines.specs.Line.{LineAt, seen};
+ghost use Rattle.question_lines.specs.Inner.{as_read};
 
-use crate::steps::{Ending, NumberRead, SecondRead, ending_at, number_at, second_at};
-use crate::{LineRead, Question};
-use text_reader::inner::word_at;
-use tracker::{Second, Seq};
-
-// A line of a sequence number, from after the number on.
-fn seq_ended(s: &[u8], at: usize, seq: Seq) -> LineRead
-    requires { at ≤ length s.now }
-    ensures { LineAt s.now (seq_ended seq (drop at s.now)) result }
-{
-    match ending_at(s, at) {
-        Ending::At(find_opt, end) => LineRead::At(Question::BySeq(seq, find_opt), end),
-        Ending::Nothing => LineRead::NotTheForm,
-    }
-}
-
-// A line of a second, from after the number on.
-fn time_ended(s: &[u8], at: usize, ts: Second) -> LineRead
-    requires { at ≤ length s.now }
-    ensures { LineAt s.now (time_ended ts (drop at s.now)) result }
-{
-    match ending_at(s, at) {
-        Ending::At(find_opt, end) => LineRead::At(Question::ByTime(ts, find_opt), end),
-        Ending::Nothing => LineRead::NotTheForm,
-    }
-}
+use crate::Question;
+use crate::steps::{ending, number, second, word};
+use tracker::Seq;
 
 // A line that asks by sequence number.
-fn by_seq(s: &[u8]) -> LineRead
-    ensures { LineAt s.now (by_seq s.now) result }
+#[tactic(auto, unfolding(crate::specs::Grammar::by_seq))]
+fn by_seq(s: &[u8]) -> Option<(Question, &[u8])>
+    ensures { as_read result ≡ by_seq s.now }
 {
-    if !word_at(s, 0, b"seq ") {
-        return LineRead::NotTheForm;
-    }
-    match number_at(s, 4, 18446744073709551615) {
-        NumberRead::At(n, end) => seq_ended(s, end, Seq(n)),
-        NumberRead::Nothing => LineRead::NotTheForm,
-    }
+    let s = word(word(s, b"seq")?, b" ")?;
+    let (n, s) = number(s, u64::MAX)?;
+    let (find_opt, s) = ending(s)?;
+    Some((Question::BySeq(Seq(n), find_opt), s))
 }
 
 // A line that asks by second.
-fn by_time(s: &[u8]) -> LineRead
-    ensures { LineAt s.now (by_time s.now) result }
+#[tactic(auto, unfolding(crate::specs::Grammar::by_time))]
+fn by_time(s: &[u8]) -> Option<(Question, &[u8])>
+    ensures { as_read result ≡ by_time s.now }
 {
-    if !word_at(s, 0, b"time ") {
-        return LineRead::NotTheForm;
-    }
-    match second_at(s, 5) {
-        SecondRead::At(ts, end) => time_ended(s, end, ts),
-        SecondRead::Nothing => LineRead::NotTheForm,
-    }
+    let s = word(word(s, b"time")?, b" ")?;
+    let (ts, s) = second(s)?;
+    let (find_opt, s) = ending(s)?;
+    Some((Question::ByTime(ts, find_opt), s))
 }
 
 // The whole line.
-pub fn question_of(s: &[u8]) -> LineRead
-    ensures { LineAt s.now (question s.now) result }
+#[tactic(auto, using(crate::proofs::Tails::question_at), unfolding(crate::specs::Grammar::question))]
+pub fn question_of(s: &[u8]) -> Option<(Question, &[u8])>
+    ensures { LineAt s.now (question s.now) (seen result) }
 {
-    match by_seq(s) {
-        LineRead::At(q, at) => LineRead::At(q, at),
-        LineRead::NotTheForm => by_time(s),
-    }
+    by_seq(s).or_else(|| by_time(s))
 }

@@ -12,10 +12,3 @@ pub enum Question {
     BySeq(Seq, FindOption),
     ByTime(Second, FindOption),
 }
-
-// What the bytes begin with: a question, with the place after its line, or not a line of this form.
-#[derive(Clone, Copy)]
-pub enum LineRead {
-    At(Question, usize),
-    NotTheForm,
-}

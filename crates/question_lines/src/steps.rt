@@ -1,121 +1,74 @@
-// The parts of a line at a place of the bytes: a number that fits its key, and what follows it.
-ghost use Rattle.std.specs.Prelude.{◌≤◌, ◌^◌, ◌≡◌, pos, neg_ℤ, length, drop};
-ghost use Rattle.question_lines.specs.Grammar.{not_negative, negative, second, ending};
-ghost use Rattle.question_lines.specs.Inner.{NumberAt, SecondAt, EndingAt, line_end};
+// The parts of a line, each read from the front of the bytes, with what follows: a word, a number that fits its key, what follows the number.
+ghost use Rattle.std.specs.Prelude.{◌≤◌, ◌^◌, ◌≡◌, pos, neg_ℤ, IfSome};
+ghost use Rattle.question_lines.specs.Grammar.{not_the_form, number, negative, not_negative, second, direction, ending};
+ghost use Rattle.text_reader.specs.Words.{word};
+ghost use Rattle.question_lines.specs.Inner.{as_read, as_word};
 
 use lookup::FindOption;
-use text_reader::inner::{digits_at, word_at};
+use text_reader::inner::digits_at;
 use tracker::Second;
 
-#[derive(Clone, Copy)]
-pub enum NumberRead {
-    At(u64, usize),
-    Nothing,
-}
-
-#[derive(Clone, Copy)]
-pub enum SecondRead {
-    At(Second, usize),
-    Nothing,
-}
-
-#[derive(Clone, Copy)]
-pub enum Ending {
-    At(FindOption, usize),
-    Nothing,
+// These very bytes.
+#[tactic(auto, using(crate::proofs::Parts::word_is))]
+pub fn word<'a>(s: &'a [u8], w: &[u8]) -> Option<&'a [u8]>
+    ensures { as_word result ≡ word not_the_form w.now s.now }
+{
+    s.strip_prefix(w)
 }
 
 // One or more digits, whose number is `most` at most.
-pub fn number_at(s: &[u8], at: usize, most: u64) -> NumberRead
-    requires { at ≤ length s.now }
-    ensures { NumberAt s.now at most result }
+pub fn number(s: &[u8], most: u64) -> Option<(u64, &[u8])>
+    ensures read { as_read result ≡ number most s.now }
+    ensures most { IfSome result (λ r. r.0 ≤ most) }
 {
-    let n = digits_at(s, at);
-    let end = n.end;
-    let value = n.value;
-    if end <= at {
-        return NumberRead::Nothing;
+    let n = digits_at(s, 0);
+    if n.end == 0 || !n.fits || most < n.value {
+        return None;
     }
-    if !n.fits {
-        return NumberRead::Nothing;
-    }
-    if most < value {
-        return NumberRead::Nothing;
-    }
-    NumberRead::At(value, end)
-}
-
-// A number with a minus before it.
-fn negated(n: u64) -> i64
-    requires { n ≤ 2 ^ 63 }
-    ensures { result ≡ neg_ℤ (pos n) }
-{
-    if n == 0 {
-        return 0;
-    }
-    !((n - 1) as i64)
+    Some((n.value, &s[n.end..]))
 }
 
 // A second with a minus.
-fn negative_at(s: &[u8], at: usize) -> SecondRead
-    requires { at ≤ length s.now }
-    ensures { SecondAt s.now (negative (drop at s.now)) result }
+fn negative(s: &[u8]) -> Option<(Second, &[u8])>
+    ensures { as_read result ≡ negative s.now }
 {
-    if !word_at(s, at, b"-") {
-        return SecondRead::Nothing;
-    }
-    match number_at(s, at + 1, 9223372036854775808) {
-        NumberRead::At(n, end) => SecondRead::At(Second(negated(n)), end),
-        NumberRead::Nothing => SecondRead::Nothing,
-    }
+    let s = word(s, b"-")?;
+    let (n, s) = number(s, i64::MIN.unsigned_abs())?;
+    Some((Second(0i64.checked_sub_unsigned(n)?), s))
 }
 
 // A second with none.
-fn not_negative_at(s: &[u8], at: usize) -> SecondRead
-    requires { at ≤ length s.now }
-    ensures { SecondAt s.now (not_negative (drop at s.now)) result }
+fn not_negative(s: &[u8]) -> Option<(Second, &[u8])>
+    ensures { as_read result ≡ not_negative s.now }
 {
-    match number_at(s, at, 9223372036854775807) {
-        NumberRead::At(n, end) => SecondRead::At(Second(n as i64), end),
-        NumberRead::Nothing => SecondRead::Nothing,
-    }
+    let (n, s) = number(s, i64::MAX.unsigned_abs())?;
+    Some((Second(n as i64), s))
 }
 
 // A second of 64 bits.
-pub fn second_at(s: &[u8], at: usize) -> SecondRead
-    requires { at ≤ length s.now }
-    ensures { SecondAt s.now (second (drop at s.now)) result }
+pub fn second(s: &[u8]) -> Option<(Second, &[u8])>
+    ensures { as_read result ≡ second s.now }
 {
-    match negative_at(s, at) {
-        SecondRead::At(ts, end) => SecondRead::At(ts, end),
-        SecondRead::Nothing => not_negative_at(s, at),
-    }
+    negative(s).or_else(|| not_negative(s))
 }
 
-// LF, after a direction.
-fn line_end(s: &[u8], at: usize, find_opt: FindOption) -> Ending
-    requires { at ≤ length s.now }
-    ensures { EndingAt s.now (line_end find_opt (drop at s.now)) result }
+// `up` or `down`.
+fn direction(s: &[u8]) -> Option<(FindOption, &[u8])>
+    ensures { as_read result ≡ direction s.now }
 {
-    if word_at(s, at, b"\n") {
-        return Ending::At(find_opt, at + 1);
+    if let Some(s) = word(s, b"up") {
+        return Some((FindOption::RoundUp, s));
     }
-    Ending::Nothing
+    let s = word(s, b"down")?;
+    Some((FindOption::RoundDown, s))
 }
 
 // What follows the number: one space, the direction, LF.
-pub fn ending_at(s: &[u8], at: usize) -> Ending
-    requires { at ≤ length s.now }
-    ensures { EndingAt s.now (ending (drop at s.now)) result }
+pub fn ending(s: &[u8]) -> Option<(FindOption, &[u8])>
+    ensures { as_read result ≡ ending s.now }
 {
-    if !word_at(s, at, b" ") {
-        return Ending::Nothing;
-    }
-    if word_at(s, at + 1, b"up") {
-        return line_end(s, at + 3, FindOption::RoundUp);
-    }
-    if word_at(s, at + 1, b"down") {
-        return line_end(s, at + 5, FindOption::RoundDown);
-    }
-    Ending::Nothing
+    let s = word(s, b" ")?;
+    let (find_opt, s) = direction(s)?;
+    let s = word(s, b"\n")?;
+    Some((find_opt, s))
 }
