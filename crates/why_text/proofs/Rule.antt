@@ -5,13 +5,11 @@ use mathlib.Core.List.{List}
 use lib.IntN.{ℤ}
 use lib.ListN.{length, take, drop}
 use borrow.Author.Tests.{lt-ltb, le-ltb}
-use Rattle.decoder.proofs.Lengths.{tail_is}
 use Rattle.report.specs.Lines.{refused_text}
-use Rattle.question_lines.specs.Grammar.{question}
-use Rattle.question_lines.specs.Line.{ReadTo, LineAt}
+use Rattle.gorilla.specs.Parser.{refused}
+use Rattle.question_lines.specs.Grammar.{not_the_form, question}
+use Rattle.question_lines.specs.Line.{ReadTo}
 use Rattle.question_lines.specs.declared.Question.{Question}
-use Rattle.question_lines.specs.declared.LineRead.{LineRead}
-use Rattle.question_lines.specs.declared.LineRead.TheVariants.{At, NotTheForm}
 use Rattle.restoring.specs.Restore.{told_restore, Restores}
 use Rattle.restoring.specs.declared.Restored.{Restored}
 use Rattle.why_text.specs.Text.{restored_text, own_seqs, own_secs, image_text, why_text}
@@ -22,19 +20,15 @@ pub restored_text_lem : (q : Question) (image s₀ seqs : List ℕ) (t₀ secs :
 unfolding image_text
 restored_text_lem q image s₀ seqs t₀ secs r e f h = rw (h.1, h.2, h.0, e, f)
 
--- the line that was read
-module _ (input : List ℕ) (r : LineRead) (h : LineAt input (question input) r) where
-  pub asked : (q : Question) (at : ℕ) → r ≡ At q at → ReadTo input (question input) q at
-  asked q at e = subst (LineAt input (question input)) e h
-
-  -- what follows the line, as the code takes it
-  pub asked_text_lem : (q : Question) (at : ℕ) → r ≡ At q at → length input ≤ 65536 → why_text input ≡ image_text q (take (length input - at) (drop at input))
+-- the line that was read, or none
+module _ (input : List ℕ) (few : length input ≤ 65536) where
+  pub asked_text_lem : (q : Question) (image : List ℕ) → ReadTo input (question input) q image → why_text input ≡ image_text q image
   unfolding why_text
-  asked_text_lem q at e few = rw (le-ltb 65536 (length input) few, (asked q at e).0, tail_is input at)
+  asked_text_lem q image h = rw (le-ltb 65536 (length input) few, h.0)
 
-  pub unasked_text : r ≡ NotTheForm → length input ≤ 65536 → why_text input ≡ refused_text 36
+  pub unasked_text : question input ≡ refused not_the_form → why_text input ≡ refused_text 36
   unfolding why_text
-  unasked_text e few = rw (le-ltb 65536 (length input) few, subst (LineAt input (question input)) e h)
+  unasked_text h = rw (le-ltb 65536 (length input) few, h)
 
 pub too_long_lem : (input : List ℕ) → 65536 < length input → why_text input ≡ refused_text 22
 unfolding why_text

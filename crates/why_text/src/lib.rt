@@ -12,7 +12,7 @@ mod number; // number.rt: the number of a table's refusal
 
 use lines::{put_why_seq, put_why_ts};
 use number::table_number;
-use question_lines::{LineRead, Question};
+use question_lines::Question;
 use report::inner::{number, put_refused};
 use restoring::Restored;
 use tracker::SequenceTracker;
@@ -81,7 +81,7 @@ pub fn why(input: &[u8], out: &mut [u8; TEXT_ROOM]) -> usize
         return put_refused(out, 22);
     }
     match question_lines::inner::question_of(input) {
-        LineRead::At(q, at) => put_of_image(out, &input[at..], q),
-        LineRead::NotTheForm => put_refused(out, 36),
+        Some((q, image)) => put_of_image(out, image, q),
+        None => put_refused(out, 36),
     }
 }

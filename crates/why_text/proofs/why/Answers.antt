@@ -9,12 +9,12 @@ pub returns-then-input-gt-MOST_INPUT : goal.returns-then-input-gt-MOST_INPUT
 returns-then-input-gt-MOST_INPUT c =
     rw (too_long_lem c.args.input.now c.if-input-gt-MOST_INPUT.true) (whole c.put_refused.ensures (omega (arith, refused-length 22)))
 
-pub returns-in-At : goal.returns-in-At
-returns-in-At c =
-    rw (asked_text_lem c.args.input.now c.question_of.result c.question_of.ensures c.in-At.q c.in-At.at c.in-At.is c.if-input-gt-MOST_INPUT.false)
+pub returns-in-Some : goal.returns-in-Some
+returns-in-Some c =
+    rw (asked_text_lem c.args.input.now c.if-input-gt-MOST_INPUT.false c.in-Some.q c.in-Some.image.now c.in-Some.ensures)
     (whole c.put_of_image.ensures (le_trans (image_length _ _) (omega arith)))
 
-pub returns-in-NotTheForm : goal.returns-in-NotTheForm
-returns-in-NotTheForm c =
-    rw (unasked_text c.args.input.now c.question_of.result c.question_of.ensures c.in-NotTheForm.is c.if-input-gt-MOST_INPUT.false)
-    (whole c.put_refused-in-NotTheForm.ensures (omega (arith, refused-length 36)))
+pub returns-in-None : goal.returns-in-None
+returns-in-None c =
+    rw (unasked_text c.args.input.now c.if-input-gt-MOST_INPUT.false c.in-None.ensures)
+    (whole c.put_refused-in-None.ensures (omega (arith, refused-length 36)))
