@@ -14,3 +14,4 @@ pub mod Begins
 pub mod Cuts
 pub mod Rooms
 pub mod Unique
+pub mod Walk

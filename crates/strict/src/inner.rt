@@ -1,3 +1,2 @@
 // What our own crates call.
-pub use crate::FirstWide;
 pub use crate::search::first_wide;

@@ -5,12 +5,3 @@
 mod calm; // calm.rt: small deltas, told without a search
 pub mod inner; // inner.rt: what our own crates call
 mod search; // search.rt: the first difference that 32 bits do not hold
-
-use gorilla::Array;
-
-// The first difference of deltas that 32 bits do not hold.
-#[derive(Clone, Copy)]
-pub enum FirstWide {
-    None,
-    At(Array, usize),
-}

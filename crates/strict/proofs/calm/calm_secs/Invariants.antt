@@ -1,9 +1,0 @@
-use Rattle.std.proofs.Common.{◌≡◌, ◌-◌, ◌*◌, ◌^◌, ◌≤◌, length}
-use Rattle.strict.proofs.Small.{Calm}
-use Rattle.strict.proofs.calm.calm_secs.Given as goal
-
-abbrev pub invariant-loop-i : goal.invariant-loop-i
-invariant-loop-i l = (1 ≤ l.i) × (l.sum ≤ l.i * 2 ^ 34) × (l.sum ≡ 0 → Calm 1 l.secs l.i)
-
-abbrev pub decreases-loop-i : goal.decreases-loop-i
-decreases-loop-i l = length l.secs - l.i
