@@ -4,17 +4,14 @@ use mathlib.Core.Path.{◌≡◌, refl, sym, ap, ◌∙◌}
 use mathlib.Core.List.{List, [], ◌∷◌}
 use native.Mathlib.Omega.{arith}
 use lib.IntN.{ℤ}
-use Rattle.told.specs.Told.{Told}
-use Rattle.told.proofs.Unique.{given_not_refused, same-list}
+use Rattle.std.specs.Prelude.{Result, Ok, Err}
+use Rattle.told.specs.Told.{Told, told_by}
+use Rattle.told.proofs.Unique.{given_not_refused, same-list, same_gift}
 use Rattle.gorilla.specs.Array.{array_no}
 use Rattle.gorilla.proofs.Unique.{array_told}
-use Rattle.encoder.specs.Encode.{told, told_len, told_encode, len_rule, Encodes}
+use Rattle.encoder.specs.Encode.{told, told_len, len_rule, Encodes}
 use Rattle.encoder.specs.declared.Refusal.{Refusal}
 use Rattle.encoder.specs.declared.Refusal.TheVariants as rv
-use Rattle.encoder.specs.declared.EncodedLen.{EncodedLen}
-use Rattle.encoder.specs.declared.EncodedLen.TheVariants as lv
-use Rattle.encoder.specs.declared.Encoded.{Encoded}
-use Rattle.encoder.specs.declared.Encoded.TheVariants as ev
 
 -- the numbers of the refusals differ
 abbrev number : List ℕ → ℕ
@@ -45,23 +42,18 @@ refusal-told (rv.Room n) rv.TooMany h = apart h (λ e. omega arith)
 refusal-told (rv.Room n) (rv.Wide a i) h = apart h (λ e. omega arith)
 refusal-told (rv.Room n) (rv.Room m) h = cc
 
-pub len_told : (a b : EncodedLen) → told_len a ≡ told_len b → a ≡ b
-len_told (lv.Bytes n) (lv.Bytes m) h = cc
-len_told (lv.Bytes n) (lv.Refused r) h = given_not_refused h
-len_told (lv.Refused r) (lv.Bytes m) h = given_not_refused (sym h)
-len_told (lv.Refused r) (lv.Refused q) h = ap lv.Refused (refusal-told r q (same-list h))
-
-pub encode_told : (a b : Encoded) → told_encode a ≡ told_encode b → a ≡ b
-encode_told (ev.Written n) (ev.Written m) h = cc
-encode_told (ev.Written n) (ev.Refused r) h = given_not_refused h
-encode_told (ev.Refused r) (ev.Written m) h = given_not_refused (sym h)
-encode_told (ev.Refused r) (ev.Refused q) h = ap ev.Refused (refusal-told r q (same-list h))
+-- what was given, and by what it was refused, back from what is told
+pub one_told : (a b : Result ℕ Refusal) → told_by told a ≡ told_by told b → a ≡ b
+one_told (Ok n) (Ok m) h = ap Ok (same_gift h)
+one_told (Ok n) (Err r) h = given_not_refused h
+one_told (Err r) (Ok m) h = given_not_refused (sym h)
+one_told (Err r) (Err q) h = ap Err (refusal-told r q (same-list h))
 
 -- `encoded_len`
-pub one_len : (seqs : List ℕ) (secs : List ℤ) (a b : EncodedLen) → told_len a ≡ len_rule seqs secs → told_len b ≡ len_rule seqs secs → a ≡ b
-one_len seqs secs a b h k = len_told a b (h ∙ sym k)
+pub one_len : (seqs : List ℕ) (secs : List ℤ) (a b : Result ℕ Refusal) → told_len a ≡ len_rule seqs secs → told_len b ≡ len_rule seqs secs → a ≡ b
+one_len seqs secs a b h k = one_told a b (h ∙ sym k)
 
 -- `encode` and `encode_strict`, each by its rule: its answer, and the buffer
-pub one_encode : (rule : List ℕ → List ℤ → ℕ → Told ℕ) (seqs : List ℕ) (secs : List ℤ) (out : List ℕ) (a b : Encoded) (x y : List ℕ) → Encodes rule seqs secs out a x → Encodes rule seqs secs out b y
+pub one_encode : (rule : List ℕ → List ℤ → ℕ → Told ℕ) (seqs : List ℕ) (secs : List ℤ) (out : List ℕ) (a b : Result ℕ Refusal) (x y : List ℕ) → Encodes rule seqs secs out a x → Encodes rule seqs secs out b y
     → (a ≡ b) × (x ≡ y)
-one_encode rule seqs secs out a b x y h k = (encode_told a b (h.0 ∙ sym k.0), h.1 ∙ sym k.1)
+one_encode rule seqs secs out a b x y h k = (one_told a b (h.0 ∙ sym k.0), h.1 ∙ sym k.1)

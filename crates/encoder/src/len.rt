@@ -3,7 +3,7 @@ ghost use Rattle.std.specs.Prelude.{◌≡◌, ◌+◌, ◌*◌, length};
 ghost use Rattle.told.specs.Told.{gave};
 ghost use Rattle.encoder.specs.Encode.{told_len, arrays_rule, len_rule};
 
-use crate::{EncodedLen, Refusal};
+use crate::Refusal;
 use lengths::inner::image_bytes;
 
 // The values that an array to encode may have.
@@ -11,24 +11,21 @@ const MOST: usize = 65536;
 
 // A length that no image of so many pairs exceeds, at 36 bits a code; or 18, 19.
 #[tactic(auto, unfolding(crate::specs::Encode::arrays_rule))]
-pub fn most_bytes(seqs: &[u64], secs: &[i64]) -> EncodedLen
+pub fn most_bytes(seqs: &[u64], secs: &[i64]) -> Result<usize, Refusal>
     ensures { told_len result ≡ arrays_rule seqs.now secs.now (gave (length seqs.now * 9 + 21)) }
 {
     if seqs.len() != secs.len() {
-        return EncodedLen::Refused(Refusal::LengthsDiffer);
+        return Err(Refusal::LengthsDiffer);
     }
     if seqs.len() > MOST {
-        return EncodedLen::Refused(Refusal::TooMany);
+        return Err(Refusal::TooMany);
     }
-    let most = seqs.len() * 9 + 21;
-    EncodedLen::Bytes(most)
+    Ok(seqs.len() * 9 + 21)
 }
 
-pub fn encoded_len(seqs: &[u64], secs: &[i64]) -> EncodedLen
+pub fn encoded_len(seqs: &[u64], secs: &[i64]) -> Result<usize, Refusal>
     ensures { told_len result ≡ len_rule seqs.now secs.now }
 {
-    match most_bytes(seqs, secs) {
-        EncodedLen::Bytes(_) => EncodedLen::Bytes(image_bytes(seqs, secs)),
-        EncodedLen::Refused(refusal) => EncodedLen::Refused(refusal),
-    }
+    most_bytes(seqs, secs)?;
+    Ok(image_bytes(seqs, secs))
 }

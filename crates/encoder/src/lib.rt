@@ -25,18 +25,3 @@ pub enum Refusal {
     // 21: the buffer is too short, and the bytes that it would have to have
     Room(usize),
 }
-
-// What the length answers.
-#[derive(Clone, Copy)]
-pub enum EncodedLen {
-    Bytes(usize),
-    Refused(Refusal),
-}
-
-// What an encoder answers.
-#[derive(Clone, Copy)]
-pub enum Encoded {
-    // the bytes that were written
-    Written(usize),
-    Refused(Refusal),
-}
