@@ -1,9 +1,40 @@
 // The digest of FORMAT.md, of an image and of pairs.
-use std::num::wrapping_add_usize as after;
-use vector_bytes::{u8_at, u32_at, u64_at};
-use vector_lists::{sec_of, seq_of};
+ghost use Rattle.std.specs.Prelude.{◌≡◌, ℕ};
+ghost use Rattle.std.specs.Int.{w64, cast_unsigned};
 
-const START: u64 = 88172645463325252;
+use vector_bytes::Body;
+
+// What a digest is made of: a byte or a number, by its bits.
+trait Bits: Copy {
+    ghost bits: { Self → ℕ };
+
+    fn bits(self) -> u64
+        ensures { result ≡ bits self };
+}
+
+impl Bits for u8 {
+    ghost bits = { λ x. x };
+
+    fn bits(self) -> u64 {
+        u64::from(self)
+    }
+}
+
+impl Bits for u64 {
+    ghost bits = { λ x. x };
+
+    fn bits(self) -> u64 {
+        self
+    }
+}
+
+impl Bits for i64 {
+    ghost bits = { cast_unsigned w64 };
+
+    fn bits(self) -> u64 {
+        self.cast_unsigned()
+    }
+}
 
 // A step of xorshift on 64 bits.
 pub fn mix(x: u64) -> u64 {
@@ -12,26 +43,18 @@ pub fn mix(x: u64) -> u64 {
     b ^ (b << 17)
 }
 
-// Whether an image has the length and the digest that stand at a place of a body.
-pub fn image_so(b: &[u8], at: usize, image: &[u8]) -> bool {
-    let mut d = START;
-    let mut i = 0;
-    while i < image.len() {
-        d = mix(d ^ u8_at(image, i) as u64);
-        i += 1;
-    }
-    (image.len() == u32_at(b, at)) & (d == u64_at(b, after(at, 4)))
+fn digest<T: Bits>(values: &[T]) -> u64 {
+    let start = 88172645463325252;
+    values.iter().fold(start, |d, x| mix(d ^ x.bits()))
 }
 
-// Whether the first n pairs have the digests that stand at a place of a body: of the sequences, then of the seconds.
-pub fn pairs_so(b: &[u8], at: usize, n: usize, seqs: &[u64], secs: &[i64]) -> bool {
-    let mut d = START;
-    let mut e = START;
-    let mut i = 0;
-    while i < n {
-        d = mix(d ^ seq_of(seqs, i));
-        e = mix(e ^ sec_of(secs, i));
-        i += 1;
-    }
-    (d == u64_at(b, at)) & (e == u64_at(b, after(at, 8)))
+// Whether an image has the length and the digest that a body goes on with.
+pub fn image_so(mut body: Body<'_>, image: &[u8]) -> bool {
+    let length: u32 = body.read();
+    (image.len() == length as usize) & (digest(image) == body.read())
+}
+
+// Whether pairs have the digests that a body goes on with: of the sequences, then of the seconds.
+pub fn pairs_so(mut body: Body<'_>, seqs: &[u64], secs: &[i64]) -> bool {
+    (digest(seqs) == body.read()) & (digest(secs) == body.read())
 }

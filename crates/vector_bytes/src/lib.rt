@@ -1,68 +1,107 @@
-// Numbers and parts of a stored record's body, least significant byte first. Each answers at every place: past the end stand zeros,
-// and a part that is not there is empty. For the program `vectors` and the crates beside it.
+// Numbers and parts of a stored record's body, least significant byte first, read one after the other. For the program `vectors` and the crates beside it.
 #![tactic(auto)]
 
-ghost use Rattle.std.specs.Prelude.{◌<◌};
+ghost use Rattle.std.specs.Prelude.{◌≡◌, ℕ, List, drop};
+ghost use Rattle.std.specs.Int.{w16, w32, w64, from_le_bytes, cast_signed};
+ghost use Rattle.vector_bytes.specs.Body.{padded, part, first_byte};
 
-use std::num::wrapping_add_usize as after;
-
-pub fn wide(x: u8) -> usize
-    ensures { result < 256 }
-{
-    x as usize
+// What is left of a body. It answers everywhere: past the end stand zeros, and a part that is not there is empty.
+#[derive(Clone, Copy)]
+pub struct Body<'a> {
+    pub left: &'a [u8],
 }
 
-pub fn u8_at(b: &[u8], at: usize) -> usize
-    ensures { result < 256 }
-{
-    if at < b.len() {
-        return wide(b[at]);
+impl<'a> Body<'a> {
+    // The next N bytes.
+    fn bytes<const N: usize>(&mut self) -> [u8; N]
+        ensures value { result ≡ padded N self.old.left.now }
+        ensures left { self.new.left.now ≡ drop N self.old.left.now }
+    {
+        let mut bytes = [0u8; N];
+        let n = N.min(self.left.len());
+        let (head, left) = self.left.split_at(n);
+        bytes[..n].copy_from_slice(head);
+        self.left = left;
+        bytes
     }
-    0
-}
 
-pub fn u16_at(b: &[u8], at: usize) -> usize
-    ensures { result < 65536 }
-{
-    u8_at(b, at) + 256 * u8_at(b, after(at, 1))
-}
-
-pub fn u32_at(b: &[u8], at: usize) -> usize
-    ensures { result < 4294967296 }
-{
-    u16_at(b, at) + 65536 * u16_at(b, after(at, 2))
-}
-
-pub fn u64_at(b: &[u8], at: usize) -> u64 {
-    (u32_at(b, at) + 4294967296 * u32_at(b, after(at, 4))) as u64
-}
-
-pub fn i64_at(b: &[u8], at: usize) -> i64 {
-    signed::as_signed(u64_at(b, at))
-}
-
-// The bytes from `from` up to `end`.
-pub fn part<'a>(b: &'a [u8], from: usize, end: usize) -> &'a [u8] {
-    if end > b.len() {
-        return &b[..0];
+    // The next number.
+    pub fn read<T: Number>(&mut self) -> T
+        ensures value { result ≡ T.of_bytes (padded T.size self.old.left.now) }
+        ensures left { self.new.left.now ≡ drop T.size self.old.left.now }
+    {
+        T::read(self)
     }
-    if from > end {
-        return &b[..0];
+
+    // The next n bytes.
+    pub fn part(&mut self, n: usize) -> &'a [u8]
+        ensures value { result.now ≡ part n self.old.left.now }
+        ensures left { self.new.left.now ≡ drop n self.old.left.now }
+    {
+        let part = self.left.get(..n).unwrap_or(&[]);
+        self.left = self.left.get(n..).unwrap_or(&[]);
+        part
     }
-    &b[from..end]
 }
 
-// Whether `got` begins with `want`.
-pub fn begins(got: &[u8], want: &[u8]) -> bool {
-    if got.len() < want.len() {
-        return false;
+// A number that so many bytes stand for.
+pub trait Number: Copy {
+    ghost size: { ℕ };
+
+    ghost of_bytes: { List ℕ → Self };
+
+    fn read(body: &mut Body<'_>) -> Self
+        ensures value { result ≡ of_bytes (padded size body.old.left.now) }
+        ensures left { body.new.left.now ≡ drop size body.old.left.now };
+}
+
+impl Number for u8 {
+    ghost size = { 1 };
+
+    ghost of_bytes = { first_byte };
+
+    fn read(body: &mut Body<'_>) -> u8 {
+        let [byte] = body.bytes::<1>();
+        byte
     }
-    let mut i = 0;
-    while i < want.len() {
-        if u8_at(got, i) != u8_at(want, i) {
-            return false;
-        }
-        i += 1;
+}
+
+impl Number for u16 {
+    ghost size = { 2 };
+
+    ghost of_bytes = { from_le_bytes w16 };
+
+    fn read(body: &mut Body<'_>) -> u16 {
+        u16::from_le_bytes(body.bytes::<2>())
     }
-    true
+}
+
+impl Number for u32 {
+    ghost size = { 4 };
+
+    ghost of_bytes = { from_le_bytes w32 };
+
+    fn read(body: &mut Body<'_>) -> u32 {
+        u32::from_le_bytes(body.bytes::<4>())
+    }
+}
+
+impl Number for u64 {
+    ghost size = { 8 };
+
+    ghost of_bytes = { from_le_bytes w64 };
+
+    fn read(body: &mut Body<'_>) -> u64 {
+        u64::from_le_bytes(body.bytes::<8>())
+    }
+}
+
+impl Number for i64 {
+    ghost size = { 8 };
+
+    ghost of_bytes = { λ bytes. cast_signed w64 (from_le_bytes w64 bytes) };
+
+    fn read(body: &mut Body<'_>) -> i64 {
+        i64::from_le_bytes(body.bytes::<8>())
+    }
 }
