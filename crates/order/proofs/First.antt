@@ -3,9 +3,12 @@ use mathlib.Core.Path.{◌≡◌, refl}
 use mathlib.Core.Logic.{⊎_elim}
 use mathlib.Core.Bool.{Bool, true, false, cond}
 use Prim.Native.Nat.{ℕ, zero, suc, ◌+◌, ◌≤◌, ◌<◌}
-use native.Mathlib.Nat.{eq-or-lt_of_le}
+use native.Mathlib.Nat.{eq-or-lt_of_le, le_refl}
 use native.Mathlib.Omega.{arith}
-use Rattle.order.specs.First.{first_from, first}
+use borrow.Author.Tests.{lt-ltb, le-ltb}
+use Rattle.std.specs.Prelude.{List, length, get_or, Option, Some, None, MatchOption, HoldsAt}
+use Rattle.std.specs.List.{AllWithin}
+use Rattle.order.specs.First.{first_from, first, found}
 use Rattle.order.proofs.Bools.{other}
 
 from_is : (t : ℕ → Bool) (n k i : ℕ) → k ≤ i → i ≤ k + n → ((j : ℕ) → k ≤ j → j < i → t j ≡ false) → (i < k + n → t i ≡ true) → first_from t k n ≡ i
@@ -26,6 +29,20 @@ first-none t n i h out = first_is t n n (omega arith) (λ j l. out j (omega arit
 -- a hit
 pub first_hit : (t : ℕ → Bool) (n i : ℕ) → i < n → ((j : ℕ) → j < i → t j ≡ false) → t i ≡ true → first t n ≡ i
 first_hit t n i h out hit = first_is t n i (omega arith) out (λ _. hit)
+
+-- found as an option: a hit, and a whole walk without one
+pub found_hit : (t : ℕ → Bool) (n i : ℕ) → i < n → ((j : ℕ) → j < i → t j ≡ false) → t i ≡ true → Some i ≡ found t n
+found_hit t n i h out hit = let e = first_hit t n i h out hit in rw (e, lt-ltb i n h)
+
+pub found-none : (t : ℕ → Bool) (n i : ℕ) → n ≤ i → ((j : ℕ) → j < i → t j ≡ false) → None ≡ found t n
+found-none t n i h out = let e = first-none t n i h out in rw (e, le-ltb n n (le_refl n))
+
+-- of elements, as a walk over them finds it
+pub found_by : {A : Type 0} (t : A → Bool) (xs : List A) (d : A) (r : Option ℕ)
+    → MatchOption r (AllWithin (λ x. t x ≡ false) xs 0 (length xs)) (λ i. (i < length xs) × HoldsAt (λ x. t x ≡ true) xs i × AllWithin (λ x. t x ≡ false) xs 0 i)
+    → r ≡ found (λ i. t (get_or xs i d)) (length xs)
+found_by t xs d None h = found-none _ _ _ (le_refl _) (λ j l. h j d (omega arith) l)
+found_by t xs d (Some i) h = found_hit _ _ _ h.0 (λ j l. h.2 j d (omega arith) l) (h.1 d)
 
 -- it is at most n
 pub first-within : (t : ℕ → Bool) (n : ℕ) → first t n ≤ n

@@ -5,3 +5,4 @@ pub mod Last
 pub mod Order
 pub mod Fours
 pub mod Domain
+pub mod Taken

@@ -2,4 +2,5 @@
 #![tactic(auto)]
 
 pub mod inner; // inner.rt: the first place of an array that breaks a rule
-mod steps; // steps.rt: one step, and four at a time
+pub mod key; // key.rt: what an array is ordered by
+mod steps; // steps.rt: four at a time

@@ -71,7 +71,7 @@ fn lacks_date(secs: &[i64], count: usize, dates: bool) -> bool
     requires { count ≤ length secs.now }
     ensures { result ≡ lacks_date dates secs.now count }
 {
-    dates && first_outside(secs, count) < count
+    dates && first_outside(&secs[..count]).is_some()
 }
 
 // The text of the first `count` pairs. 27 is found before a byte is put.

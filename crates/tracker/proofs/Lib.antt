@@ -1,4 +1,5 @@
 -- Laws that belong to no one function.
+pub mod Broken
 pub mod Good
 pub mod Rest
 pub mod Kept

@@ -4,23 +4,22 @@ ghost use Rattle.tracker.specs.Refusal.{told_check};
 ghost use Rattle.tracker.specs.Table.{pairs_of};
 
 use crate::Refusal;
+use order::inner::{first_drop, sec_outside};
 
 // The first n pairs: the order of the sequences, that of the seconds, then the domain.
 pub fn pairs(seqs: &[u64], secs: &[i64], n: usize) -> Result<(), Refusal>
-    requires { (n ≤ length seqs.now) × (n ≤ length secs.now) × (n ≤ 8192) }
+    requires { (n ≤ length seqs.now) × (n ≤ length secs.now) }
     ensures { told_check result ≡ pairs_of seqs.now secs.now n }
 {
-    let seq = order::inner::seq_drop(seqs, n);
-    if seq < n {
-        return Err(Refusal::SequenceDrops(seq));
+    let secs = &secs[..n];
+    if let Some(i) = first_drop(&seqs[..n]) {
+        return Err(Refusal::SequenceDrops(i));
     }
-    let sec = order::inner::sec_drop(secs, n);
-    if sec < n {
-        return Err(Refusal::SecondDrops(sec));
+    if let Some(i) = first_drop(secs) {
+        return Err(Refusal::SecondDrops(i));
     }
-    let outside = order::inner::sec_outside(secs, n);
-    if outside < n {
-        return Err(Refusal::SecondOutside(outside));
+    if let Some(i) = sec_outside(secs) {
+        return Err(Refusal::SecondOutside(i));
     }
     Ok(())
 }

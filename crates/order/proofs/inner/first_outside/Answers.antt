@@ -1,23 +1,10 @@
-use native.Mathlib.Omega.{arith}
-use mathlib.Core.Path.{sym, ◌∙◌}
-use borrow.Author.Count.{below_more, below_none}
-use Rattle.order.proofs.First.{first_hit, first-none}
+use Rattle.std.proofs.Common.{◌≡◌, true, false, rules}
+use Rattle.std.proofs.lemmas.Iterator.{IsFirst-from_position, YieldsList-from_slice}
+use Rattle.limits.specs.Domain.{outside}
+use Rattle.order.proofs.First.{found_by}
 use Rattle.order.proofs.inner.first_outside.Goals as goal
 
-pub loop-i-init : goal.loop-i-init
-loop-i-init c = below_none _
-
-pub returns-then-sec_outside_at : goal.returns-then-sec_outside_at
-returns-then-sec_outside_at c = sym (first_hit _ _ _ (omega arith) c.loop-i.invariant (sym c.sec_outside_at.ensures ∙ c.if-sec_outside_at.true))
-
-pub overflow_add-i : goal.overflow_add-i
-overflow_add-i c = omega arith
-
-pub loop-i-smaller : goal.loop-i-smaller
-loop-i-smaller c = omega arith
-
-pub loop-i-preserved : goal.loop-i-preserved
-loop-i-preserved c = below_more _ _ c.loop-i.invariant (sym c.sec_outside_at.ensures ∙ c.if-sec_outside_at.false)
-
 pub returns : goal.returns
-returns c = sym (first-none _ _ _ c.loop-i-test.false c.loop-i.invariant)
+returns c =
+    found_by outside c.args.secs.now _ _
+    (IsFirst-from_position _ _ _ (λ z. outside z ≡ true) (λ z. outside z ≡ false) c.position.ensures.ran (YieldsList-from_slice _ c.iter.ensures.rest) (λ x q k. search rules) (λ x q k. search rules))

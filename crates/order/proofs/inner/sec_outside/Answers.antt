@@ -1,12 +1,12 @@
-use mathlib.Core.Path.{sym, ◌∙◌}
+use Rattle.std.proofs.Common.{rules, false, ◌≡◌, ◌-◌, length}
 use native.Mathlib.Nat.{le_refl}
-use Rattle.order.proofs.First.{first-none}
+use Rattle.order.specs.Order.{sec_outside}
+use Rattle.order.proofs.First.{found-none}
 use Rattle.order.proofs.Fours.{between}
 use Rattle.order.proofs.inner.sec_outside.Goals as goal
 
-pub returns-then-not-sec_outside_at-2 : goal.returns-then-not-sec_outside_at-2
-returns-then-not-sec_outside_at-2 c =
-    sym (first-none _ _ c.args.n (le_refl c.args.n) (between c.args.secs.now c.args.n c.requires.1 (sym c.sec_outside_at.ensures ∙ c.if-not-sec_outside_at.true) (sym c.sec_outside_at-then-not-sec_outside_at.ensures ∙ c.if-not-sec_outside_at-2.true)))
-
-pub returns : goal.returns
-returns c = c.first_outside.ensures
+pub returns-then-not-out_of_domain-2 : goal.returns-then-not-out_of_domain-2
+returns-then-not-out_of_domain-2 c =
+    let low : sec_outside c.args.secs.now 0 ≡ false = search rules in
+    let high : sec_outside c.args.secs.now (length c.args.secs.now - 1) ≡ false = search rules in
+    found-none _ _ _ (le_refl _) (between c.args.secs.now _ c.requires low high)
