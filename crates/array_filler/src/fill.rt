@@ -6,7 +6,7 @@ ghost use Rattle.array_reader.specs.Inner.{array_at, passed_at};
 ghost use Rattle.array_filler.specs.Inner.{Stepped, CanStep};
 
 use bits::Place;
-use code_reader::inner::{CodeRead, read_code, window_at, zeros};
+use code_reader::inner::{read_code, window_at, zeros};
 use gorilla::Track;
 use gorilla::inner::follow;
 
@@ -51,16 +51,13 @@ fn step(s: &[u8], c: Cursor) -> Cursor
         };
     }
     match read_code(w) {
-        CodeRead::Diff(d, n) => Cursor {
+        Ok(code) => Cursor {
             zeros: 0,
-            at: bits::inner::after(at, n),
-            track: follow(t, d),
+            at: bits::inner::after(at, code.bits),
+            track: follow(t, code.diff),
         },
-        CodeRead::Cut(_, _) => Cursor {
-            zeros: 0,
-            at: at,
-            track: t,
-        },
+        // never met: the codes were looked over
+        Err(_) => c,
     }
 }
 

@@ -10,7 +10,7 @@ use borrow.Author.Tests.{ltb-true}
 use lib.Dec.{ltb}
 use lib.ListN.{length, drop, get_or, replicate}
 use lib.Seq.{drop-cons}
-use lib.IntN.{ℤ, pos}
+use lib.IntN.{pos}
 use Rattle.raw_bits.specs.Inner.{bit_at}
 use Rattle.bits.specs.Place.{pos_of, place_of}
 use Rattle.bits.specs.declared.Place.{Place}
@@ -23,10 +23,11 @@ use Rattle.gorilla.specs.Reading.{count_ones, read_code, read_codes}
 use Rattle.bit_lists.proofs.Lists.{bit_is, length-bits_of}
 use Rattle.gorilla.proofs.Taking.{no_bits}
 use Rattle.gorilla.proofs.Readers.{shape-next}
-use Rattle.code_reader.specs.declared.missing.Missing.{Missing}
 use Rattle.code_reader.specs.Inner.{Holds, Zeros, missed, ReadsCode}
 use Rattle.code_reader.specs.declared.window.Window.{Window}
-use Rattle.code_reader.specs.declared.code.CodeRead.TheVariants as c
+use Rattle.std.specs.Prelude.{Ok, Err}
+use Rattle.code_reader.specs.declared.code.Code.{Code}
+use Rattle.code_reader.specs.declared.missing.Cut.{Cut}
 
 -- ---- n zeros before other bits
 zero-code : (all a i : ℕ) (bs : List ℕ) → read (pos 0) bs ≡ read_code all a i (0 ∷ bs)
@@ -95,10 +96,10 @@ module _ (s : List ℕ) (at : Place) {w : Window} (h : Holds s (pos_of (length s
   zeros_on_at max n z k e = zeros_from s at _ n (omega (arith, h.within, z.1)) (on n k z.1 e) (z.2 s (pos_of (length s) at) h)
 
   -- a code
-  pub code_at : (a i n : ℕ) {d : ℤ} → ReadsCode w (c.Diff d n) → {q : Place} → q ≡ place_of (at.byte * 8 + at.bit + n) → read d (bits_from s q) ≡ read_code (length s * 8) a i (bits_from s at)
+  pub code_at : (a i : ℕ) (r : Code) → ReadsCode w (Ok r) → {q : Place} → q ≡ place_of (at.byte * 8 + at.bit + r.bits) → read r.diff (bits_from s q) ≡ read_code (length s * 8) a i (bits_from s at)
   unfolding bits_from
-  code_at a i n {d} r e = ap (λ (u : ℕ). read d (drop u (bits_of s))) (on n r.0.0 r.0.1 e) ∙ r.1 s (pos_of (length s) at) a i h
+  code_at a i r k e = ap (λ (u : ℕ). read r.diff (drop u (bits_of s))) (on r.bits k.0.0 k.0.1 e) ∙ k.1 s (pos_of (length s) at) a i h
 
-  pub code_cut_at : (a i left : ℕ) (m : Missing) → ReadsCode w (c.Cut m left) → refused (with (missed a i m) (place_of (length s * 8 - left))) ≡ read_code (length s * 8) a i (bits_from s at)
+  pub code_cut_at : (a i : ℕ) (r : Cut) → ReadsCode w (Err r) → refused (with (missed a i r.missing) (place_of (length s * 8 - r.left))) ≡ read_code (length s * 8) a i (bits_from s at)
   unfolding bits_from
-  code_cut_at a i left m k = k.1 s (pos_of (length s) at) a i h
+  code_cut_at a i r k = k.1 s (pos_of (length s) at) a i h

@@ -1,2 +1,2 @@
 // What our own crates call: an array looked over.
-pub use crate::array::{ArrayScan, scan_array};
+pub use crate::array::{Stretch, scan_array};

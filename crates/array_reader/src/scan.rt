@@ -5,18 +5,11 @@ ghost use Rattle.array_reader.specs.Inner.{Scans};
 use bits::Place;
 use bits::inner::place_left;
 use code_reader::Refusal;
-use code_reader::inner::{CodeRead, read_code, refusal_of, window_at, zeros};
+use code_reader::inner::{read_code, refusal_of, window_at, zeros};
 use gorilla::Array;
 
-#[derive(Clone, Copy)]
-pub enum Scanned {
-    // the place after the codes
-    Done(Place),
-    Refused(Refusal),
-}
-
-// The codes of the indices from 1 to count - 1.
-pub fn scan(s: &[u8], at: Place, count: usize, array: Array) -> Scanned
+// The codes of the indices from 1 to count - 1: the place after them.
+pub fn scan(s: &[u8], at: Place, count: usize, array: Array) -> Result<Place, Refusal>
     requires { 8 ≤ length s.now }
     ensures { Scans s.now at count array result }
 {
@@ -31,15 +24,15 @@ pub fn scan(s: &[u8], at: Place, count: usize, array: Array) -> Scanned
             continue;
         }
         match read_code(w) {
-            CodeRead::Diff(_, n) => {
-                p = bits::inner::after(p, n);
+            Ok(code) => {
+                p = bits::inner::after(p, code.bits);
             }
-            CodeRead::Cut(missing, left) => {
-                let begins = place_left(s.len(), left);
-                return Scanned::Refused(refusal_of(missing, array, i, begins));
+            Err(cut) => {
+                let begins = place_left(s.len(), cut.left);
+                return Err(refusal_of(cut.missing, array, i, begins));
             }
         }
         i += 1;
     }
-    Scanned::Done(p)
+    Ok(p)
 }

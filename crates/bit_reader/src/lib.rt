@@ -8,7 +8,7 @@ ghost use Rattle.std.specs.Prelude.{◌≡◌};
 ghost use Rattle.bits.specs.Read.{told_read, read_rule};
 ghost use Rattle.bit_reader.specs.Reader.{place_in};
 
-use bits::{BitsRead, Place, read_bits};
+use bits::{Place, ReadRefusal, read_bits};
 
 #[derive(Clone, Copy)]
 pub struct BitReader<'a> {
@@ -30,7 +30,7 @@ impl<'a> BitReader<'a> {
     }
 
     // `width` bits from the reader's place on.
-    pub fn read(self, width: u8) -> BitsRead
+    pub fn read(self, width: u8) -> Result<(u64, Place), ReadRefusal>
         ensures { told_read result ≡ read_rule self.entry.buf.now (place_in self.entry) width }
     {
         read_bits(
@@ -56,7 +56,7 @@ impl<'a> BitReader<'a> {
 }
 
 // A read through a reader, for a caller that holds none.
-pub fn read_from(s: &[u8], at: Place, width: u8) -> BitsRead
+pub fn read_from(s: &[u8], at: Place, width: u8) -> Result<(u64, Place), ReadRefusal>
     ensures { told_read result ≡ read_rule s.now at width }
 {
     BitReader::new(s).moved(at).read(width)

@@ -16,7 +16,8 @@ use Rattle.bits.specs.Place.{pos_of, left_at, place_of}
 use Rattle.bits.specs.Read.{Piece, read_rule, told_read}
 use Rattle.bits.specs.Write.{write_rule, written}
 use Rattle.bits.specs.declared.Place.{Place}
-use Rattle.bits.specs.declared.BitsRead.TheVariants as rv
+use Rattle.std.specs.Prelude.{Ok, Err}
+use Rattle.bits.specs.declared.ReadRefusal.TheVariants as rv
 
 -- ---- the rules by cases; q is the number of bits before the place
 pub read_width : (s : List ℕ) (at : Place) (n : ℕ) → 64 < n → refused (23 ∷ []) ≡ read_rule s at n
@@ -29,7 +30,7 @@ unfolding read_rule
 read_short s at n q h e w g d = rw (← e, le-ltb 64 n h, lt-ltb (length s * 8 - q) n (omega arith), d) refl
 
 pub read-value : (s : List ℕ) (at : Place) (n q : ℕ) {v : ℕ} {p : Place} → n ≤ 64 → q ≡ pos_of (length s) at → q + n ≤ length s * 8
-    → v ≡ bits_at s q n → p ≡ place_of (q + n) → told_read (rv.Value v p) ≡ read_rule s at n
+    → v ≡ bits_at s q n → p ≡ place_of (q + n) → told_read (Ok (v, p)) ≡ read_rule s at n
 unfolding read_rule
 read-value s at n q h e g d f =
     let few : n ≤ length s * 8 - q = omega arith in rw (← e) (simp (le-ltb _ _ h, le-ltb _ _ few, d, from_at s q n g, f))
@@ -115,8 +116,8 @@ module _ (s : List ℕ) (at : Place) (n : ℕ) where
       go false e true f g = b (ltb-false _ _ e) (omega (arith, ltb-true (left_at (length s) at) n f, pos_le (length s) at)) g
       go false e false f g = c (ltb-false _ _ e) (omega (arith, ltb-false (left_at (length s) at) n f, pos_le (length s) at)) g
 
-  pub given : {v : ℕ} {p : Place} → told_read (rv.Value v p) ≡ read_rule s at n → Given s at n v p
-  given {v} {p} h = by_case (told_read (rv.Value v p)) h
+  pub given : {v : ℕ} {p : Place} → told_read (Ok (v, p)) ≡ read_rule s at n → Given s at n v p
+  given {v} {p} h = by_case (told_read (Ok (v, p))) h
       (λ _ g. let z : ◌≡◌ {A = ℕ} 0 1 = cc in absurd (omega arith))
       (λ _ _ g. let z : ◌≡◌ {A = ℕ} 0 1 = cc in absurd (omega arith))
       (λ e w g. let same : ◌≡◌ {A = Piece} (record { value = v; next = p }) (record { value = nat_from 0 (take n (drop (pos_of (length s) at) (bits_of s))); next = place_of (pos_of (length s) at + n) }) = cc in
@@ -124,15 +125,15 @@ module _ (s : List ℕ) (at : Place) (n : ℕ) where
       record { width = e; within = w; value = ap (λ (x : Piece). x.value) same ∙ from_at s (pos_of (length s) at) n w; place = q; pos = ap (pos_of (length s)) q ∙ pos-place (length s) (pos_of (length s) at + n) w })
 
   -- a read that was too short, and the bits left
-  pub short : {left : ℕ} → told_read (rv.Short left) ≡ read_rule s at n → (length s * 8 < pos_of (length s) at + n) × (left ≡ left_at (length s) at)
-  short {left} h = by_case (told_read (rv.Short left)) h
+  pub short : {left : ℕ} → told_read (Err (rv.Short left)) ≡ read_rule s at n → (length s * 8 < pos_of (length s) at + n) × (left ≡ left_at (length s) at)
+  short {left} h = by_case (told_read (Err (rv.Short left))) h
       (λ _ g. let z : ◌≡◌ {A = ℕ} 23 24 = cc in absurd (omega arith))
       (λ _ w g. (w, cc))
       (λ _ _ g. let z : ◌≡◌ {A = ℕ} 0 1 = cc in absurd (omega arith))
 
   -- a width above 64
-  pub too_wide : told_read rv.Width ≡ read_rule s at n → 64 < n
-  too_wide h = by_case (told_read rv.Width) h
+  pub too_wide : told_read (Err rv.Width) ≡ read_rule s at n → 64 < n
+  too_wide h = by_case (told_read (Err rv.Width)) h
       (λ w _. w)
       (λ _ _ g. let z : ◌≡◌ {A = ℕ} 23 24 = cc in absurd (omega arith))
       (λ _ _ g. let z : ◌≡◌ {A = ℕ} 0 1 = cc in absurd (omega arith))

@@ -1,17 +1,19 @@
 -- A write of bits (docs/RULES.md, "Bits"): the numbers of its refusals, the rule, and the buffer afterwards.
-use Rattle.std.specs.Prelude.{ℕ, zero, suc, ◌+◌, ◌*◌, ◌≡◌, cond, List, [], ◌∷◌, ◌++◌, length, take, ltb}
-use Rattle.told.specs.Told.{Told, gave, refused}
+use Rattle.std.specs.Prelude.{ℕ, zero, suc, ◌+◌, ◌*◌, ◌≡◌, cond, List, [], ◌∷◌, ◌++◌, length, take, ltb, Result}
+use Rattle.told.specs.Told.{Told, gave, refused, told_by}
 use Rattle.told.specs.Over.{filled}
 use Rattle.bit_lists.specs.BitList.{nat_bits, bits_of, byte_len, packed}
 use Rattle.bits.specs.Place.{pos_of, place_of}
 use Rattle.bits.specs.declared.Place.{Place}
-use Rattle.bits.specs.declared.BitsWritten.{BitsWritten}
-use Rattle.bits.specs.declared.BitsWritten.TheVariants.{Done, Width, Short}
+use Rattle.bits.specs.declared.WriteRefusal.{WriteRefusal}
+use Rattle.bits.specs.declared.WriteRefusal.TheVariants.{Width, Short}
 
-abbrev pub told_write : BitsWritten → Told Place
-told_write (Done p) = gave p
-told_write Width = refused (23 ∷ [])
-told_write (Short bytes) = refused (21 ∷ bytes ∷ [])
+abbrev pub write_refused : WriteRefusal → List ℕ
+write_refused Width = 23 ∷ []
+write_refused (Short bytes) = 21 ∷ bytes ∷ []
+
+abbrev pub told_write : Result Place WriteRefusal → Told Place
+told_write = told_by write_refused
 
 -- n bits into s from a place on: above 64 refused, then, told with the whole bytes needed, a buffer too short
 unfoldable pub write_rule : List ℕ → Place → ℕ → Told Place
@@ -27,5 +29,5 @@ written s at v zero = s
 written s at v (suc n) = filled (write_rule s at (suc n)) (packed (take (pos_of (length s) at) (bits_of s) ++ nat_bits (suc n) v)) s
 
 -- `write_bits` of the n low bits of v into s: its answer, and what s is afterwards
-abbrev pub Writes : List ℕ → Place → ℕ → ℕ → BitsWritten → List ℕ → Type 0
+abbrev pub Writes : List ℕ → Place → ℕ → ℕ → Result Place WriteRefusal → List ℕ → Type 0
 Writes s at v n r now = (told_write r ≡ write_rule s at n) × (now ≡ written s at v n)

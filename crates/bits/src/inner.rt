@@ -7,15 +7,15 @@ use crate::Place;
 pub use raw_bits::inner::{field, put_bits, word_at};
 
 // The place itself, or the end of a slice of `len` bytes.
+#[tactic(auto, unfolding(crate::specs::Place::pos_of))]
 pub fn settle(len: usize, at: Place) -> Place
     ensures { Settled len at result }
 {
-    if at.byte < len {
-        if at.bit < 8 {
-            return at;
-        }
+    if at.byte < len && at.bit < 8 {
+        at
+    } else {
+        Place { byte: len, bit: 0 }
     }
-    Place { byte: len, bit: 0 }
 }
 
 // The whole bytes that `width` bits from a place on reach into.

@@ -2,8 +2,8 @@
 //
 // slatedb's BitWriter pushes one bit at a time into a buffer that grows, and its BitReader takes one
 // bit at a time. Here a read or a write moves up to 64 bits at a place of a lent slice, a byte or more
-// at a time. No public call has a `requires`: a call that cannot be answered is refused by a case of its
-// answer, whose number specs/ lists (docs/RULES.md, "Refusals"), and a refused call changes nothing.
+// at a time. No public call has a `requires`: a call that cannot be answered is an `Err` with its refusal,
+// whose number specs/ lists (docs/RULES.md, "Refusals"), and a refused call changes nothing.
 #![tactic(auto)]
 
 pub mod inner; // inner.rt: the steps, for our own crates: all but `settle` have a `requires`
@@ -21,22 +21,18 @@ pub struct Place {
     pub bit: u8,
 }
 
-// What a read answers.
-#[derive(Clone, Copy)]
-pub enum BitsRead {
-    // the bits as a number, and the place after them
-    Value(u64, Place),
+// Why a read is refused.
+#[derive(Clone, Copy, PartialEq, Eq, Debug)]
+pub enum ReadRefusal {
     // 23: more than 64 bits asked
     Width,
     // 24: fewer bits left than asked, and how many
     Short(u8),
 }
 
-// What a write answers.
-#[derive(Clone, Copy)]
-pub enum BitsWritten {
-    // the place after the bits
-    Done(Place),
+// Why a write is refused.
+#[derive(Clone, Copy, PartialEq, Eq, Debug)]
+pub enum WriteRefusal {
     // 23: more than 64 bits asked
     Width,
     // 21: the buffer is too short, and the bytes that it would have to have

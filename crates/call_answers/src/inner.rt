@@ -15,7 +15,7 @@ ghost use Rattle.answers.specs.Answer.{of_count, of_signed, of_piece, of_place, 
 use crate::{SeqSheetAnswer, TsSheetAnswer};
 use answers::inner::answer;
 use answers::{Answer, inner as refusals};
-use bits::{BitsRead, BitsWritten};
+use bits::{Place, ReadRefusal, WriteRefusal};
 use dates::{DateRead, DateWritten};
 use decoder::{Decoded, ImageLen};
 use encoder::{Encoded, EncodedLen};
@@ -26,23 +26,23 @@ use sheets::{SeqSheetBack, TsSheetBack};
 use signed::{WidthOutside, as_unsigned};
 use tracker::Refusal;
 
-pub fn of_read(read: BitsRead) -> Answer
+pub fn of_read(read: Result<(u64, Place), ReadRefusal>) -> Answer
     ensures { result ≡ of_piece (reading.told_read read) }
 {
     match read {
-        BitsRead::Value(value, next) => answer(0, value, next.byte as u64, next.bit as u64),
-        BitsRead::Width => answer(23, 0, 0, 0),
-        BitsRead::Short(left) => answer(24, left as u64, 0, 0),
+        Ok((value, next)) => answer(0, value, next.byte as u64, next.bit as u64),
+        Err(ReadRefusal::Width) => answer(23, 0, 0, 0),
+        Err(ReadRefusal::Short(left)) => answer(24, left as u64, 0, 0),
     }
 }
 
-pub fn of_written(written: BitsWritten) -> Answer
+pub fn of_written(written: Result<Place, WriteRefusal>) -> Answer
     ensures { result ≡ of_place (told_write written) }
 {
     match written {
-        BitsWritten::Done(next) => answer(0, next.byte as u64, next.bit as u64, 0),
-        BitsWritten::Width => answer(23, 0, 0, 0),
-        BitsWritten::Short(bytes) => answer(21, bytes as u64, 0, 0),
+        Ok(next) => answer(0, next.byte as u64, next.bit as u64, 0),
+        Err(WriteRefusal::Width) => answer(23, 0, 0, 0),
+        Err(WriteRefusal::Short(bytes)) => answer(21, bytes as u64, 0, 0),
     }
 }
 

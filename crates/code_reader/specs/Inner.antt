@@ -1,5 +1,5 @@
 -- What our own functions promise each other. No public statement cites this file.
-use Rattle.std.specs.Prelude.{ℕ, ◌+◌, ◌-◌, ◌*◌, ◌/◌, ◌^◌, ◌≤◌, ◌<◌, min, ◌≡◌, List, [], ◌∷◌, length, drop, ℤ}
+use Rattle.std.specs.Prelude.{ℕ, ◌+◌, ◌-◌, ◌*◌, ◌/◌, ◌^◌, ◌≤◌, ◌<◌, min, ◌≡◌, List, [], ◌∷◌, length, drop, ℤ, Result, Ok, Err}
 use Rattle.raw_bits.specs.Inner.{bit_at, bits_at}
 use Rattle.bit_lists.specs.BitList.{bits_of}
 use Rattle.bits.specs.Place.{place_of}
@@ -7,11 +7,9 @@ use Rattle.gorilla.specs.Parser.{Read, read, refused, with}
 use Rattle.gorilla.specs.Reading.{count_ones, read_code}
 use Rattle.code_reader.specs.declared.missing.Missing.{Missing}
 use Rattle.code_reader.specs.declared.missing.Missing.TheVariants as m
+use Rattle.code_reader.specs.declared.missing.Cut.{Cut}
 use Rattle.code_reader.specs.declared.window.Window.{Window}
-use Rattle.code_reader.specs.declared.prefix.Prefix.{Prefix}
-use Rattle.code_reader.specs.declared.prefix.Prefix.TheVariants as p
-use Rattle.code_reader.specs.declared.code.CodeRead.{CodeRead}
-use Rattle.code_reader.specs.declared.code.CodeRead.TheVariants as c
+use Rattle.code_reader.specs.declared.code.Code.{Code}
 
 -- w has bits of the bytes xs from bit q on: as many as a code may have, or all that are left
 pub record Holds (xs : List ℕ) (q : ℕ) (w : Window) : Type 0 where
@@ -31,28 +29,28 @@ missed a i m.Prefix = 7 ∷ a ∷ i ∷ []
 missed a i (m.Diff width) = 8 ∷ a ∷ i ∷ width ∷ []
 
 -- ---- answers as what a reader gives, of the bytes xs from bit q on, for index i of array a
-abbrev pub told_prefix : List ℕ → ℕ → ℕ → ℕ → Prefix → Read ℕ
-told_prefix xs q a i (p.Ones n) = read n (drop (q + min (n + 1) 4) (bits_of xs))
-told_prefix xs q a i (p.Cut m) = refused (missed a i m)
+abbrev pub told_prefix : List ℕ → ℕ → ℕ → ℕ → Result ℕ Cut → Read ℕ
+told_prefix xs q a i (Ok n) = read n (drop (q + min (n + 1) 4) (bits_of xs))
+told_prefix xs q a i (Err cut) = refused (missed a i cut.missing)
 
-abbrev pub told_code : List ℕ → ℕ → ℕ → ℕ → CodeRead → Read ℤ
-told_code xs q a i (c.Diff d n) = read d (drop (q + n) (bits_of xs))
-told_code xs q a i (c.Cut m left) = refused (with (missed a i m) (place_of (length xs * 8 - left)))
+abbrev pub told_code : List ℕ → ℕ → ℕ → ℕ → Result Code Cut → Read ℤ
+told_code xs q a i (Ok code) = read code.diff (drop (q + code.bits) (bits_of xs))
+told_code xs q a i (Err cut) = refused (with (missed a i cut.missing) (place_of (length xs * 8 - cut.left)))
 
--- a prefix has at most four ones, and its bits are bits of w; where one is cut off, w has fewer than four
-abbrev pub WithinPrefix : Window → Prefix → Type 0
-WithinPrefix w (p.Ones n) = (n ≤ 4) × (min (n + 1) 4 ≤ w.have)
-WithinPrefix w (p.Cut m) = w.have < 4
+-- a prefix has at most four ones, and its bits are bits of w; where one is cut off, w has fewer than four, and they are what is left
+abbrev pub WithinPrefix : Window → Result ℕ Cut → Type 0
+WithinPrefix w (Ok n) = (n ≤ 4) × (min (n + 1) 4 ≤ w.have)
+WithinPrefix w (Err cut) = (w.have < 4) × (cut.left ≡ w.have)
 
 -- a code has bits, and they are bits of w, as are those that are left where one is cut off
-abbrev pub WithinCode : Window → CodeRead → Type 0
-WithinCode w (c.Diff d n) = (0 < n) × (n ≤ w.have)
-WithinCode w (c.Cut m left) = left ≤ w.have
+abbrev pub WithinCode : Window → Result Code Cut → Type 0
+WithinCode w (Ok code) = (0 < code.bits) × (code.bits ≤ w.have)
+WithinCode w (Err cut) = cut.left ≤ w.have
 
 -- r is the prefix, whatever bytes w has bits of, and of whatever index
-abbrev pub ReadsPrefix : Window → Prefix → Type 0
+abbrev pub ReadsPrefix : Window → Result ℕ Cut → Type 0
 ReadsPrefix w r = WithinPrefix w r × ((xs : List ℕ) (q a i : ℕ) → Holds xs q w → told_prefix xs q a i r ≡ count_ones a i 4 0 (drop q (bits_of xs)))
 
 -- r is its code
-abbrev pub ReadsCode : Window → CodeRead → Type 0
+abbrev pub ReadsCode : Window → Result Code Cut → Type 0
 ReadsCode w r = WithinCode w r × ((xs : List ℕ) (q a i : ℕ) → Holds xs q w → told_code xs q a i r ≡ read_code (length xs * 8) a i (drop q (bits_of xs)))

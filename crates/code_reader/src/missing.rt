@@ -20,6 +20,13 @@ pub enum Missing {
     Diff(u8),
 }
 
+// What of a code is missing, and the bits left where the code begins.
+#[derive(Clone, Copy)]
+pub struct Cut {
+    pub missing: Missing,
+    pub left: u8,
+}
+
 // The refusal at an index whose code begins at a place.
 pub fn refusal_of(missing: Missing, array: Array, index: usize, at: Place) -> Refusal
     ensures { told result ≡ with (missed (array_no array) index missing) at }

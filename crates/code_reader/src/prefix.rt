@@ -2,19 +2,11 @@
 ghost use Rattle.std.specs.Prelude.{◌≡◌, ◌+◌, ◌≤◌, min};
 ghost use Rattle.code_reader.specs.Inner.{ReadsPrefix};
 
-use crate::missing::Missing;
+use crate::missing::{Cut, Missing};
 use crate::window::Window;
 
-#[derive(Clone, Copy)]
-pub enum Prefix {
-    // the number of ones
-    Ones(usize),
-    // what is missing: all of the code, or some of its prefix
-    Cut(Missing),
-}
-
-// The prefix of the code that a window starts with.
-pub fn leading(w: Window) -> Prefix
+// The ones of the code that a window starts with; or all of the code is missing, or some of its prefix.
+pub fn leading(w: Window) -> Result<usize, Cut>
     ensures { ReadsPrefix w result }
 {
     let mut n: usize = 0;
@@ -24,16 +16,22 @@ pub fn leading(w: Window) -> Prefix
         }
         if w.have as usize <= n {
             if n == 0 {
-                return Prefix::Cut(Missing::Code);
+                return Err(Cut {
+                    missing: Missing::Code,
+                    left: 0,
+                });
             }
-            return Prefix::Cut(Missing::Prefix);
+            return Err(Cut {
+                missing: Missing::Prefix,
+                left: w.have,
+            });
         }
         if (w.bits >> (63 - n)) % 2 == 0 {
             break n;
         }
         n += 1;
     };
-    Prefix::Ones(ones)
+    Ok(ones)
 }
 
 // The bits of a prefix of so many ones.

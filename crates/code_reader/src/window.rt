@@ -12,31 +12,22 @@ pub struct Window {
     pub have: u8,
 }
 
-// The lesser of two numbers.
-pub fn least(a: usize, b: usize) -> usize
-    ensures { result ≡ min a b }
-{
-    if a < b { a } else { b }
-}
-
 // The window at a place. Near the end it is made of the last eight bytes, less those before the place.
 pub fn window_at(s: &[u8], at: Place) -> Window
     requires { 8 ≤ length s.now }
     ensures { Holds s.now (pos_of (length s.now) at) result }
 {
-    let byte = at.byte;
-    let bit = at.bit;
-    if byte < s.len() {
-        if bit < 8 {
-            let from = least(byte, s.len() - 8);
-            let skip = ((byte - from) * 8) as u8 + bit;
-            return Window {
-                bits: bits::inner::word_at(s, from) << skip,
-                have: 64 - skip,
-            };
+    let Place { byte, bit } = at;
+    if byte < s.len() && bit < 8 {
+        let from = byte.min(s.len() - 8);
+        let skip = ((byte - from) * 8) as u8 + bit;
+        Window {
+            bits: bits::inner::word_at(s, from) << skip,
+            have: 64 - skip,
         }
+    } else {
+        Window { bits: 0, have: 0 }
     }
-    Window { bits: 0, have: 0 }
 }
 
 // Codes of one zero bit each that a window is made of, at most max: none where it has a one.
@@ -44,10 +35,8 @@ pub fn zeros(w: Window, max: usize) -> u8
     ensures { Zeros w max result }
 {
     if w.bits == 0 {
-        if w.have as usize <= max {
-            return w.have;
-        }
-        return max as u8;
+        max.min(usize::from(w.have)) as u8
+    } else {
+        0
     }
-    0
 }

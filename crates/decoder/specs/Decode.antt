@@ -1,20 +1,16 @@
 -- The list reader, an image's length, and what follows it (docs/RULES.md, "The image"): the numbers of their refusals, and the rules.
-use Rattle.std.specs.Prelude.{ℕ, ◌+◌, ◌-◌, ◌/◌, min, ◌≡◌, true, List, leb, length, drop, ℤ}
+use Rattle.std.specs.Prelude.{ℕ, ◌+◌, ◌-◌, ◌/◌, min, ◌≡◌, true, List, leb, length, drop, ℤ, Result}
 use Rattle.told.specs.Over.{filled}
-use Rattle.told.specs.Told.{Told, gave, refused}
+use Rattle.told.specs.Told.{Told, gave, refused, told_by}
 use Rattle.gorilla.specs.Parser.{Read, read}
 use Rattle.gorilla.specs.Parser as parser
 use Rattle.gorilla.specs.Reading.{Pairs, read_image, pairs_read}
 use Rattle.code_reader.specs.Refusal.{told}
-use Rattle.decoder.specs.declared.Decoded.{Decoded}
-use Rattle.decoder.specs.declared.Decoded.TheVariants as d
-use Rattle.decoder.specs.declared.ImageLen.{ImageLen}
-use Rattle.decoder.specs.declared.ImageLen.TheVariants as l
+use Rattle.code_reader.specs.declared.Refusal.{Refusal}
 
 -- ---- the list reader
-abbrev pub told_decode : Decoded → Told ℕ
-told_decode (d.Count n) = gave n
-told_decode (d.Refused r) = refused (told r)
+abbrev pub told_decode : Result ℕ Refusal → Told ℕ
+told_decode = told_by told
 
 -- what it reads: a count finds room that is not above the shorter lent array
 unfoldable pub listed : List ℕ → List ℕ → List ℤ → Read Pairs
@@ -36,13 +32,12 @@ abbrev pub secs_after : List ℕ → List ℕ → List ℤ → List ℤ
 secs_after bytes seqs secs = filled (decode_rule bytes seqs secs) (pairs_read (listed bytes seqs secs)).secs secs
 
 -- `decode`: its answer, and both arrays afterwards
-abbrev pub Decodes : List ℕ → List ℕ → List ℤ → Decoded → List ℕ → List ℤ → Type 0
+abbrev pub Decodes : List ℕ → List ℕ → List ℤ → Result ℕ Refusal → List ℕ → List ℤ → Type 0
 Decodes bytes seqs secs r seqs' secs' = (told_decode r ≡ decode_rule bytes seqs secs) × (seqs' ≡ seqs_after bytes seqs secs) × (secs' ≡ secs_after bytes seqs secs)
 
 -- ---- an image's length
-abbrev pub told_image_len : ImageLen → Told ℕ
-told_image_len (l.Bytes n) = gave n
-told_image_len (l.Refused r) = refused (told r)
+abbrev pub told_image_len : Result ℕ Refusal → Told ℕ
+told_image_len = told_by told
 
 -- the bytes, less those that are left; `left` is their bits
 abbrev pub image_len_of : List ℕ → Read Pairs → Told ℕ

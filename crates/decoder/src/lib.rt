@@ -6,18 +6,3 @@ mod reader; // reader.rt: the public calls
 
 pub use code_reader::Refusal;
 pub use reader::{decode, image_len, rest};
-
-// What the list reader answers.
-#[derive(Clone, Copy)]
-pub enum Decoded {
-    // the pairs that were stored
-    Count(usize),
-    Refused(Refusal),
-}
-
-// What a question for an image's length answers.
-#[derive(Clone, Copy)]
-pub enum ImageLen {
-    Bytes(usize),
-    Refused(Refusal),
-}

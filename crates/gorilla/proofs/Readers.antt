@@ -10,7 +10,8 @@ use Rattle.gorilla.specs.Rows.{widths}
 use Rattle.bits.specs.Place.{pos_of, left_at, place_of}
 use Rattle.bits.specs.Read.{read_rule, told_read}
 use Rattle.bits.specs.declared.Place.{Place}
-use Rattle.bits.specs.declared.BitsRead.TheVariants as rv
+use Rattle.std.specs.Prelude.{Ok, Err}
+use Rattle.bits.specs.declared.ReadRefusal.TheVariants as rv
 use Rattle.bits.proofs.Answers.{given, short, pos_le}
 use Rattle.bit_lists.specs.BitList.{bits_of}
 use Rattle.bit_lists.proofs.Lists.{length-bits_of}
@@ -59,14 +60,14 @@ item_refused {A} all m bs {l} h e f =
 
 -- n bits as an item of s
 module _ (s : List ℕ) (at : Place) (n : ℕ) (l : List ℕ) where
-  pub took : {v : ℕ} {q : Place} → told_read (rv.Value v q) ≡ read_rule s at n → item (length s * 8) (take_bits n l) (bits_from s at) ≡ read v (bits_from s q)
+  pub took : {v : ℕ} {q : Place} → told_read (Ok (v, q)) ≡ read_rule s at n → item (length s * 8) (take_bits n l) (bits_from s at) ≡ read v (bits_from s q)
   unfolding bits_from
   took h =
       let g = given s at n h in
       item-read (length s * 8) (take_bits n l) (bits_from s at)
       (take_at l s n (pos_of (length s) at) g.within ∙ ap₂ (λ (u p : ℕ). read u (drop p (bits_of s))) (sym g.value) (sym g.pos))
 
-  pub ended : {left : ℕ} {r : Place} → told_read (rv.Short left) ≡ read_rule s at n → At (length s * 8 - left) r
+  pub ended : {left : ℕ} {r : Place} → told_read (Err (rv.Short left)) ≡ read_rule s at n → At (length s * 8 - left) r
       → item (length s * 8) (take_bits n l) (bits_from s at) ≡ refused (with l r)
   unfolding bits_from
   ended h e =

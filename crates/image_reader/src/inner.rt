@@ -1,2 +1,2 @@
 // What our own crates call: the parts of an image, looked over.
-pub use crate::image::{ImageScan, Parts, scan_image};
+pub use crate::image::{Parts, scan_image};

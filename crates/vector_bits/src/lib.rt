@@ -1,7 +1,7 @@
 // Stored records of bits, replayed: W, B and N. For the program `vectors`.
 #![tactic(auto)]
 
-use bits::{BitsRead, BitsWritten, Place};
+use bits::{Place, ReadRefusal};
 use signed::WidthOutside;
 use std::num::wrapping_add_usize as after;
 use vector_bytes::{begins, part, u8_at, u32_at, u64_at};
@@ -13,8 +13,8 @@ const NOWHERE: usize = 65536;
 // One write of a body, at a place.
 fn write_one(b: &[u8], from: usize, buf: &mut [u8], at: Place) -> Place {
     match bits::write_bits(buf, at, u64_at(b, from), u8_at(b, after(from, 8)) as u8) {
-        BitsWritten::Done(p) => p,
-        _ => Place {
+        Ok(p) => p,
+        Err(_) => Place {
             byte: NOWHERE,
             bit: 0,
         },
@@ -57,19 +57,19 @@ pub fn writes(b: &[u8], tally: &mut [u64; tally::PLACES]) {
 }
 
 // Whether a read gives a value, which has the number 0, or a refusal of that number: for 24 the value is the bits left.
-fn read_so(read: BitsRead, number: usize, value: u64) -> bool {
+fn read_so(read: Result<(u64, Place), ReadRefusal>, number: usize, value: u64) -> bool {
     match read {
-        BitsRead::Value(v, _) => (number == 0) & (v == value),
-        BitsRead::Width => number == 23,
-        BitsRead::Short(left) => (number == 24) & (left as u64 == value),
+        Ok((v, _)) => (number == 0) & (v == value),
+        Err(ReadRefusal::Width) => number == 23,
+        Err(ReadRefusal::Short(left)) => (number == 24) & (left as u64 == value),
     }
 }
 
 // The place after a read.
-fn place_of(read: BitsRead, at: Place) -> Place {
+fn place_of(read: Result<(u64, Place), ReadRefusal>, at: Place) -> Place {
     match read {
-        BitsRead::Value(_, p) => p,
-        _ => at,
+        Ok((_, p)) => p,
+        Err(_) => at,
     }
 }
 

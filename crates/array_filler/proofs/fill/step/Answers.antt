@@ -36,26 +36,26 @@ returns-then-z-gt0 c =
       c.follow.ensures,
     )
 
-pub after-requires-in-Diff : goal.after-requires-in-Diff
-after-requires-in-Diff c =
-    let n : ℕ = c.in-Diff.n in
-    let r = c.in-Diff.ensures in
+pub after-requires-in-Ok : goal.after-requires-in-Ok
+after-requires-in-Ok c =
+    let n : ℕ = c.in-Ok.code.bits in
+    let r = c.in-Ok.ensures in
     let h = here c.args.s.now c.args.c.at c.window_at-w.ensures n r.0.0 r.0.1 in
     let m : n ≤ 64 = omega (arith, r.0.1, c.window_at-w.ensures.most) in
     search (rules, h, m)
 
-pub returns-in-Diff : goal.returns-in-Diff
-returns-in-Diff c =
-    let g : SFits w64 c.in-Diff.d = search rules in λ a i. (
-      c.in-Diff.d,
-      code_at c.args.s.now c.args.c.at c.window_at-w.ensures a i c.in-Diff.n c.in-Diff.ensures c.after-in-Diff.ensures ∙ at_place c.args.s.now c.args.c a i c.requires.0,
-      rw (to_z-of_z g) at c.follow-in-Diff.ensures,
+pub returns-in-Ok : goal.returns-in-Ok
+returns-in-Ok c =
+    let g : SFits w64 c.in-Ok.code.diff = search rules in λ a i. (
+      c.in-Ok.code.diff,
+      code_at c.args.s.now c.args.c.at c.window_at-w.ensures a i c.in-Ok.code c.in-Ok.ensures c.after-in-Ok.ensures ∙ at_place c.args.s.now c.args.c a i c.requires.0,
+      rw (to_z-of_z g) at c.follow-in-Ok.ensures,
     )
 
-pub returns-in-Cut : goal.returns-in-Cut
-returns-in-Cut c =
+pub returns-in-Err : goal.returns-in-Err
+returns-in-Err c =
     let s = c.args.s.now in
     let a = c.requires.2.0 in
     let i = c.requires.2.1 in
     there_not (read_code (length s * 8) a i (ahead s c.args.c))
-    (code_cut_at s c.args.c.at c.window_at-w.ensures a i c.in-Cut.field-1 c.in-Cut.field-0 c.in-Cut.ensures ∙ at_place s c.args.c a i c.requires.0) c.requires.2.2
+    (code_cut_at s c.args.c.at c.window_at-w.ensures a i c.in-Err.field-0 c.in-Err.ensures ∙ at_place s c.args.c a i c.requires.0) c.requires.2.2

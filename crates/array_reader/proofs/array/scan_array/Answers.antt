@@ -9,7 +9,8 @@ use lib.IntN.{pos}
 use Rattle.bits.specs.Place.{pos_of}
 use Rattle.bits.specs.Read.{told_read, read_rule}
 use Rattle.bits.specs.declared.Place.{Place}
-use Rattle.bits.specs.declared.BitsRead.TheVariants as rv
+use Rattle.std.specs.Prelude.{Ok, Err}
+use Rattle.bits.specs.declared.ReadRefusal.TheVariants as rv
 use Rattle.bits.proofs.Answers.{given, short, too_wide}
 use Rattle.raw_bits.proofs.Bits.{bits_at_lt}
 use Rattle.gorilla.specs.Array.{array_no}
@@ -23,7 +24,7 @@ use Rattle.array_reader.proofs.Arrays.{array_some, array_many, array_cut, from_b
 use Rattle.array_reader.proofs.array.scan_array.Goals as goal
 
 -- a count v that was read at byte `from`, and the place p after it
-module _ (s : List ℕ) (from a : ℕ) {v : ℕ} {p : Place} (h : told_read (rv.Value v p) ≡ read_rule s (record { byte = from; bit = 0 }) 32) where
+module _ (s : List ℕ) (from a : ℕ) {v : ℕ} {p : Place} (h : told_read (Ok (v, p)) ≡ read_rule s (record { byte = from; bit = 0 }) 32) where
   count_is : item (length s * 8) (take_bits 32 (4 ∷ a ∷ [])) (drop (from * 8) (bits_of s)) ≡ read v (bits_from s p)
   count_is = ap (item (length s * 8) (take_bits 32 (4 ∷ a ∷ []))) (sym (from_byte s from)) ∙ took s (record { byte = from; bit = 0 }) 32 (4 ∷ a ∷ []) h
 
@@ -41,9 +42,9 @@ pub returns-then-max-count : goal.returns-then-max-count
 returns-then-max-count c =
     let s = c.args.s.now in
     let a : ℕ = array_no c.args.array in
-    let h = c.in-Value.ensures in (
+    let h = c.in-Ok.ensures in (
       λ room agrees. sym (ap aligned (array_many (length s * 8) a room (drop (c.args.from * 8) (bits_of s)) (count_is s c.args.from a h)
-          (agrees c.in-Value.v (count_lt s c.args.from a h) ∙ lt-leb c.in-Value.v c.args.max c.if-max-count.true))),
+          (agrees c.in-Ok.v (count_lt s c.args.from a h) ∙ lt-leb c.in-Ok.v c.args.max c.if-max-count.true))),
       tt,
     )
 
@@ -52,28 +53,36 @@ unfolding passed_at
 returns-then-count-eq0 c =
     let s = c.args.s.now in
     let a : ℕ = array_no c.args.array in
-    let p = c.in-Value.p in (
+    let p = c.in-Ok.p in (
       λ room agrees. ap (λ (u : ℕ). read (array_at s a 0 (pos 0) p) (drop (u * 8) (bits_of s))) c.end_of.ensures
-          ∙ none_found (length s * 8) s a c.in-Value.v p (pos 0) c.if-count-eq0.true ∙ sym (values_is s c.args.from a c.in-Value.ensures c.args.max c.if-max-count.false room agrees),
+          ∙ none_found (length s * 8) s a c.in-Ok.v p (pos 0) c.if-count-eq0.true ∙ sym (values_is s c.args.from a c.in-Ok.ensures c.args.max c.if-max-count.false room agrees),
       (tt, subst (λ (u : ℕ). u ≤ length s) (sym c.end_of.ensures) (end-within (length s) p)),
     )
 
 -- the bits left are bits of the input
 pub place_left-requires : goal.place_left-requires
-place_left-requires c = omega (arith, (short c.args.s.now (record { byte = c.args.from; bit = 0 }) 32 c.in-Short.ensures).1)
+place_left-requires c =
+    let at : Place = record { byte = c.args.from; bit = 0 } in
+    let h : told_read (Err (rv.Short c.in-Err-Short.left)) ≡ read_rule c.args.s.now at 32 = rw c.in-Err-Short.field-0-is at c.in-Err-Short.ensures in
+    omega (arith, (short c.args.s.now at 32 h).1)
 
 pub returns-else-count-eq0 : goal.returns-else-count-eq0
 returns-else-count-eq0 c =
-    (λ room agrees. c.scan_values.ensures.0 ∙ sym (values_is c.args.s.now c.args.from (array_no c.args.array) c.in-Value.ensures c.args.max c.if-max-count.false room agrees), c.scan_values.ensures.1)
+    (λ room agrees. c.scan_values.ensures.0 ∙ sym (values_is c.args.s.now c.args.from (array_no c.args.array) c.in-Ok.ensures c.args.max c.if-max-count.false room agrees), c.scan_values.ensures.1)
 
-pub returns-in-Width : goal.returns-in-Width
-returns-in-Width c = let w : 64 < 32 = too_wide c.args.s.now (record { byte = c.args.from; bit = 0 }) 32 c.in-Width.ensures in absurd (omega arith)
+pub returns-in-Err-Width : goal.returns-in-Err-Width
+returns-in-Err-Width c =
+    let at : Place = record { byte = c.args.from; bit = 0 } in
+    let h : told_read (Err rv.Width) ≡ read_rule c.args.s.now at 32 = rw c.in-Err-Width.field-0-is at c.in-Err-Width.ensures in
+    let w : 64 < 32 = too_wide c.args.s.now at 32 h in absurd (omega arith)
 
-pub returns-in-Short : goal.returns-in-Short
-returns-in-Short c =
+pub returns-in-Err-Short : goal.returns-in-Err-Short
+returns-in-Err-Short c =
     let s = c.args.s.now in
-    let a : ℕ = array_no c.args.array in (
+    let a : ℕ = array_no c.args.array in
+    let at : Place = record { byte = c.args.from; bit = 0 } in
+    let h : told_read (Err (rv.Short c.in-Err-Short.left)) ≡ read_rule s at 32 = rw c.in-Err-Short.field-0-is at c.in-Err-Short.ensures in (
       λ room agrees. sym (ap aligned (array_cut (length s * 8) a room (drop (c.args.from * 8) (bits_of s))
-          (ap (item (length s * 8) (take_bits 32 (4 ∷ a ∷ []))) (sym (from_byte s c.args.from)) ∙ ended s (record { byte = c.args.from; bit = 0 }) 32 (4 ∷ a ∷ []) c.in-Short.ensures c.place_left.ensures))),
+          (ap (item (length s * 8) (take_bits 32 (4 ∷ a ∷ []))) (sym (from_byte s c.args.from)) ∙ ended s at 32 (4 ∷ a ∷ []) h c.place_left.ensures))),
       tt,
     )

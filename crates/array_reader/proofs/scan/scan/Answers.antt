@@ -40,24 +40,24 @@ loop-i-preserved-then-z-gt0 c =
           ∙ ap₂ (λ (u : ℕ) (bs : List ℕ). shape (read_codes (length s * 8) a u l.i bs)) e (sym o) ∙ l.invariant.1,
     )
 
-pub after-p-requires-in-Diff : goal.after-p-requires-in-Diff
-after-p-requires-in-Diff c =
-    let r = c.in-Diff.ensures in
-    let n : ℕ = c.in-Diff.n in
+pub after-p-requires-in-Ok : goal.after-p-requires-in-Ok
+after-p-requires-in-Ok c =
+    let r = c.in-Ok.ensures in
+    let n : ℕ = c.in-Ok.code.bits in
     let h = here c.args.s.now c.loop-i.p c.window_at-w.ensures n r.0.0 r.0.1 in
     let m : n ≤ 64 = omega (arith, r.0.1, c.window_at-w.ensures.most) in
     search (rules, h, m)
 
 pub place_left-begins-requires : goal.place_left-begins-requires
-place_left-begins-requires c = omega (arith, c.in-Cut.ensures.0, c.window_at-w.ensures.within)
+place_left-begins-requires c = omega (arith, c.in-Err.ensures.0, c.window_at-w.ensures.within)
 
-pub returns-in-Cut : goal.returns-in-Cut
-returns-in-Cut c =
+pub returns-in-Err : goal.returns-in-Err
+returns-in-Err c =
     let s = c.args.s.now in
     let a : ℕ = array_no c.args.array in
     let l = c.loop-i in
-    let e = code_cut_at s l.p c.window_at-w.ensures a l.i c.in-Cut.left c.in-Cut.missing c.in-Cut.ensures in
-    let told_is = c.refusal_of.ensures ∙ ap (with (missed a l.i c.in-Cut.missing)) (place_is (length s * 8 - c.in-Cut.left) c.place_left-begins.ensures) in
+    let e = code_cut_at s l.p c.window_at-w.ensures a l.i c.in-Err.cut c.in-Err.ensures in
+    let told_is = c.refusal_of.ensures ∙ ap (with (missed a l.i c.in-Err.cut.missing)) (place_is (length s * 8 - c.in-Err.cut.left) c.place_left-begins.ensures) in
     ap (λ (l : List ℕ). refused l) told_is ∙ sym (ap shape (codes_cut (length s * 8) a (c.args.count - (l.i + 1)) l.i (bits_from s l.p) e))
     ∙ left s a c.args.count l.i l.p c.loop-i-test.true ∙ l.invariant.1
 
@@ -66,7 +66,7 @@ loop-i-preserved c =
     let s = c.args.s.now in
     let a : ℕ = array_no c.args.array in
     let l = c.loop-i in
-    let h = code_at s l.p c.window_at-w.ensures a l.i c.in-Diff.n c.in-Diff.ensures c.after-p-in-Diff.ensures in
+    let h = code_at s l.p c.window_at-w.ensures a l.i c.in-Ok.code c.in-Ok.ensures c.after-p-in-Ok.ensures in
     (omega arith, sym (shape-next (length s * 8) a (c.args.count - (l.i + 1)) l.i (bits_from s l.p) h) ∙ left s a c.args.count l.i l.p c.loop-i-test.true ∙ l.invariant.1)
 
 pub returns : goal.returns

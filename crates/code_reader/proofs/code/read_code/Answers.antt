@@ -1,7 +1,8 @@
 use native.Mathlib.Omega.{arith}
 use borrow.Author.Rules.{rules}
 use Prim.Native.Nat.{ℕ, ◌+◌, ◌-◌, ◌*◌, ◌/◌, ◌%◌, ◌^◌, ◌≤◌, ◌<◌, min}
-use mathlib.Core.Path.{◌≡◌, sym, ap, ap₂, ◌∙◌}
+use mathlib.Core.Path.{◌≡◌, sym, ap, ap₂, ◌∙◌, subst}
+use Rattle.std.specs.Prelude.{Result, Err}
 use mathlib.Core.List.{List, [], ◌∷◌}
 use native.Mathlib.Nat.{mod-lt, le_refl}
 use lib.IntN.{ℤ}
@@ -18,7 +19,9 @@ use Rattle.gorilla.specs.Reading.{count_ones, read_code}
 use Rattle.gorilla.specs.Rows.{widths, decoded}
 use Rattle.gorilla.proofs.Bridge.{take_at, take_short}
 use Rattle.gorilla.proofs.Readers.{width_most, code_read, code_short, code_cut}
-use Rattle.code_reader.specs.Inner.{Holds}
+use Rattle.code_reader.specs.Inner.{Holds, missed, ReadsPrefix, ReadsCode}
+use Rattle.code_reader.specs.declared.code.Code.{Code}
+use Rattle.code_reader.specs.declared.missing.Cut.{Cut}
 use Rattle.code_reader.specs.declared.window.Window.{Window}
 use Rattle.code_reader.proofs.Windows.{bits_in, left_in}
 use Rattle.code_reader.proofs.code.read_code.Goals as goal
@@ -56,26 +59,26 @@ prefixed w n U e h xs q a i z = ap (λ (u : ℕ). read n (drop (q + u) (bits_of 
 
 pub returns-then-rest-width : goal.returns-then-rest-width
 returns-then-rest-width c =
-    let n : ℕ = c.in-Ones.n in
+    let n : ℕ = c.in_ok-n.n in
     let m = width_most n in
-    let p = prefixed c.args.w n _ c.used_of-prefix.ensures c.in-Ones.ensures.1 in (
+    let p = prefixed c.args.w n _ c.used_of-prefix.ensures c.in_ok-n.ensures.1 in (
       le_refl _,
-      λ xs q a i z. short a i n c.used_of-prefix.result c.width_of-width.result z c.width_of-width.ensures (omega (arith, c.in-Ones.ensures.0)) (omega (arith, c.in-Ones.ensures.0)) (omega arith)
+      λ xs q a i z. short a i n c.used_of-prefix.result c.width_of-width.result z c.width_of-width.ensures (omega (arith, c.in_ok-n.ensures.0)) (omega (arith, c.in_ok-n.ensures.0)) (omega arith)
           (p xs q a i z),
     )
 
 pub diff_of-requires : goal.diff_of-requires
 diff_of-requires c =
-    let m : c.width_of-width.result ≤ 32 = omega (arith, width_most c.in-Ones.n) in
+    let m : c.width_of-width.result ≤ 32 = omega (arith, width_most c.in_ok-n.n) in
     let low = mod-lt (c.args.w.bits / 2 ^ (64 - (c.used_of-prefix.result + c.width_of-width.result))) (pow_pos c.width_of-width.result) in
     (omega (arith, c.field-v.ensures, low, pow_mono m), m)
 
-pub returns-else-rest-width : goal.returns-else-rest-width
-returns-else-rest-width c =
-    let n : ℕ = c.in-Ones.n in
+pub returns : goal.returns
+returns c =
+    let n : ℕ = c.in_ok-n.n in
     let f : SFits w64 c.diff_of.result = search rules in
-    let l : c.used_of-prefix.result + c.width_of-width.result ≤ c.args.w.have = omega (arith, c.in-Ones.ensures.0) in
-    let p = prefixed c.args.w n _ c.used_of-prefix.ensures c.in-Ones.ensures.1 in (
+    let l : c.used_of-prefix.result + c.width_of-width.result ≤ c.args.w.have = omega (arith, c.in_ok-n.ensures.0) in
+    let p = prefixed c.args.w n _ c.used_of-prefix.ensures c.in_ok-n.ensures.1 in (
       (omega arith, l),
       λ xs q a i z.
           ap (λ (d : ℤ). read d (drop (q + (c.used_of-prefix.result + c.width_of-width.result)) (bits_of xs)))
@@ -83,6 +86,17 @@ returns-else-rest-width c =
           ∙ there (length xs * 8) a i n c.used_of-prefix.result c.width_of-width.result z c.width_of-width.ensures l (p xs q a i z),
     )
 
-pub returns-in-Cut : goal.returns-in-Cut
-returns-in-Cut c =
-    (le_refl _, λ xs q a i z. sym (code_cut (length xs * 8) a i (drop q (bits_of xs)) (c.in-Cut.ensures.1 xs q a i z) (left_in z (omega (arith, c.in-Cut.ensures.0)))))
+-- a prefix that is cut off cuts off the code
+cut-off : (w : Window) (r : Result Code Cut) (e : Cut) → r ≡ Err e → ReadsPrefix w (Err e) → ReadsCode w r
+cut-off w r e k h =
+    subst (ReadsCode w) (sym k) (
+      omega (arith, h.0.1),
+      λ xs q a i z.
+          ap (λ (n : ℕ). refused (with (missed a i e.missing) (place_of (length xs * 8 - n)))) h.0.1
+          ∙ sym (code_cut (length xs * 8) a i (drop q (bits_of xs)) (h.1 xs q a i z) (left_in z (omega (arith, h.0.0)))),
+    )
+
+pub returns-in_err-n : goal.returns-in_err-n
+returns-in_err-n c =
+    let e : c.from_residual.result ≡ Err c.in_err-n.field-0.0 = grind arith in
+    cut-off c.args.w _ _ e c.in_err-n.ensures

@@ -17,19 +17,19 @@ part_at : (s : List ℕ) (p : ℕ × ℕ) (n : ℕ) → n ≡ rest_from s → �
 part_at s p n e = ap (λ (o : ℕ). (p.0, o)) (add_comm n p.1 ∙ ap (λ (k : ℕ). p.1 + k) e)
 
 pub slice_bounds-result-count : goal.slice_bounds-result-count
-slice_bounds-result-count c = len_within c.args.bytes.now c.in-Bytes.ensures
+slice_bounds-result-count c = len_within c.args.bytes.now c.in-Ok.ensures
 
 pub slice_bounds-result-start : goal.slice_bounds-result-start
-slice_bounds-result-start c = omega (arith, len_within c.args.bytes.now c.in-Bytes.ensures)
+slice_bounds-result-start c = omega (arith, len_within c.args.bytes.now c.in-Ok.ensures)
 
-pub returns-in-Bytes : goal.returns-in-Bytes
-returns-in-Bytes c =
+pub returns-in-Ok : goal.returns-in-Ok
+returns-in-Ok c =
     let s = c.args.bytes.now in
-    let e = ap (start_of s) c.in-Bytes.ensures in
-    record { rest = part_is s c.in-Bytes.n e; part = part_at s c.args.bytes.ref_ptr c.in-Bytes.n e }
+    let e = ap (start_of s) c.in-Ok.ensures in
+    record { rest = part_is s c.in-Ok.n e; part = part_at s c.args.bytes.ref_ptr c.in-Ok.n e }
 
-pub returns-in-Refused : goal.returns-in-Refused
-returns-in-Refused c =
+pub returns-in-Err : goal.returns-in-Err
+returns-in-Err c =
     let s = c.args.bytes.now in
-    let e = ap (start_of s) c.in-Refused.ensures in
+    let e = ap (start_of s) c.in-Err.ensures in
     record { rest = part_is s (length s) e; part = part_at s c.args.bytes.ref_ptr (length s) e }

@@ -11,9 +11,5 @@ pub returns : goal.returns
 returns c =
     let s = c.args.s.now in
     let b : (j : ℕ) → get_or s j 0 < 256 = λ j. omega (arith, c.type_inv.s j) in
-    let e : c.wide-4.result ≡ get_or s 4 0 = c.wide-4.ensures.0 in
-    let f : c.wide-3.result ≡ get_or s 3 0 = c.wide-3.ensures.0 in
-    let g : c.wide-2.result ≡ get_or s 2 0 = c.wide-2.ensures.0 in
-    let h : c.wide.result ≡ get_or s 1 0 = c.wide.ensures.0 in
-    let k : get_or s 1 0 + 256 * (get_or s 2 0 + 256 * (get_or s 3 0 + 256 * get_or s 4 0)) ≡ c.wide.result + 256 * (c.wide-2.result + 256 * (c.wide-3.result + 256 * c.wide-4.result)) = omega arith in
+    let k : get_or s 1 0 + 256 * (get_or s 2 0 + 256 * (get_or s 3 0 + 256 * get_or s 4 0)) ≡ c.from_le_bytes.result = omega (arith, c.from_le_bytes.ensures) in
     subst (HeaderCount s) k (le_is (λ n. true) s b c.requires)
