@@ -17,7 +17,6 @@ use answers::inner::answer;
 use answers::{Answer, inner as refusals};
 use bits::{Place, ReadRefusal, WriteRefusal};
 use dates::{DateRead, DateWritten};
-use decoder::{Decoded, ImageLen};
 use encoder::{Encoded, EncodedLen};
 use lookup::{FoundSeq, FoundTs};
 use questions::Asked;
@@ -73,21 +72,21 @@ pub fn of_encoded(encoded: Encoded) -> Answer
     }
 }
 
-pub fn of_decoded(decoded: Decoded) -> Answer
+pub fn of_decoded(decoded: Result<usize, decoder::Refusal>) -> Answer
     ensures { result ≡ of_count (decoding.told_decode decoded) }
 {
     match decoded {
-        Decoded::Count(n) => answer(0, n as u64, 0, 0),
-        Decoded::Refused(why) => refusals::reading(why),
+        Ok(n) => answer(0, n as u64, 0, 0),
+        Err(why) => refusals::reading(why),
     }
 }
 
-pub fn of_image_len(len: ImageLen) -> Answer
+pub fn of_image_len(len: Result<usize, decoder::Refusal>) -> Answer
     ensures { result ≡ of_count (decoding.told_image_len len) }
 {
     match len {
-        ImageLen::Bytes(n) => answer(0, n as u64, 0, 0),
-        ImageLen::Refused(why) => refusals::reading(why),
+        Ok(n) => answer(0, n as u64, 0, 0),
+        Err(why) => refusals::reading(why),
     }
 }
 

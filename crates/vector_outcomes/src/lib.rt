@@ -3,7 +3,7 @@
 #![tactic(auto)]
 
 use bits::Place;
-use decoder::{Decoded, ImageLen, Refusal};
+use decoder::Refusal;
 use gorilla::Array;
 use std::num::wrapping_add_usize as after;
 use vector_bodies::digest;
@@ -60,8 +60,8 @@ pub fn refused_so(why: Refusal, code: usize, b: &[u8], at: usize) -> bool {
 // Whether an image's length is `count`, which has the code 0, or there is a refusal of that code; where the bytes stop stands in a body from `at` on.
 pub fn measured_so(bytes: &[u8], code: usize, count: usize, b: &[u8], at: usize) -> bool {
     match decoder::image_len(bytes) {
-        ImageLen::Bytes(n) => (code == 0) & (n == count),
-        ImageLen::Refused(why) => refused_so(why, code, b, at),
+        Ok(n) => (code == 0) & (n == count),
+        Err(why) => refused_so(why, code, b, at),
     }
 }
 
@@ -70,16 +70,16 @@ pub fn unread_so(bytes: &[u8], code: usize, b: &[u8], at: usize) -> bool {
     let mut seqs = [0u64; 8192];
     let mut secs = [0i64; 8192];
     match decoder::decode(bytes, &mut seqs, &mut secs) {
-        Decoded::Count(_) => false,
-        Decoded::Refused(why) => refused_so(why, code, b, at),
+        Ok(_) => false,
+        Err(why) => refused_so(why, code, b, at),
     }
 }
 
 // Whether the list reader gives a count.
 fn counted_so(bytes: &[u8], seqs: &mut [u64], secs: &mut [i64], count: usize) -> bool {
     match decoder::decode(bytes, seqs, secs) {
-        Decoded::Count(n) => n == count,
-        Decoded::Refused(_) => false,
+        Ok(n) => n == count,
+        Err(_) => false,
     }
 }
 
