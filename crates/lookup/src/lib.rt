@@ -16,20 +16,6 @@ pub enum FindOption {
     RoundDown,
 }
 
-#[derive(Clone, Copy)]
-pub enum FoundTs {
-    At(Second),
-    Nothing,
-    Refused(Refusal),
-}
-
-#[derive(Clone, Copy)]
-pub enum FoundSeq {
-    At(Seq),
-    Nothing,
-    Refused(Refusal),
-}
-
 // The second for a sequence number.
 pub fn find_ts(
     table: SequenceTracker,
@@ -37,22 +23,16 @@ pub fn find_ts(
     secs: &[i64],
     seq: Seq,
     find_opt: FindOption,
-) -> FoundTs
+) -> Result<Option<Second>, Refusal>
     ensures { told_ts result ≡ find_ts table seqs.now secs.now seq find_opt }
 {
-    let checked = check(table, seqs, secs);
-    match checked {
-        Ok(()) => {
-            let n = table.count;
-            let at_seq = inner::seqs::place(seqs, n, seq, find_opt);
-            if at_seq < n {
-                let second = secs[at_seq];
-                FoundTs::At(Second(second))
-            } else {
-                FoundTs::Nothing
-            }
-        }
-        Err(why) => FoundTs::Refused(why),
+    check(table, seqs, secs)?;
+    let n = table.count;
+    let at = inner::seqs::place(seqs, n, seq, find_opt);
+    if at < n {
+        Ok(Some(Second(secs[at])))
+    } else {
+        Ok(None)
     }
 }
 
@@ -63,21 +43,15 @@ pub fn find_seq(
     secs: &[i64],
     ts: Second,
     find_opt: FindOption,
-) -> FoundSeq
+) -> Result<Option<Seq>, Refusal>
     ensures { told_seq result ≡ find_seq table seqs.now secs.now ts find_opt }
 {
-    let checked = check(table, seqs, secs);
-    match checked {
-        Ok(()) => {
-            let n = table.count;
-            let at_sec = inner::secs::place(secs, n, ts, find_opt);
-            if at_sec < n {
-                let sequence = seqs[at_sec];
-                FoundSeq::At(Seq(sequence))
-            } else {
-                FoundSeq::Nothing
-            }
-        }
-        Err(why) => FoundSeq::Refused(why),
+    check(table, seqs, secs)?;
+    let n = table.count;
+    let at = inner::secs::place(secs, n, ts, find_opt);
+    if at < n {
+        Ok(Some(Seq(seqs[at])))
+    } else {
+        Ok(None)
     }
 }
