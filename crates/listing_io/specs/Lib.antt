@@ -1,2 +1,1 @@
 pub mod Run
-pub mod Inner

@@ -5,13 +5,14 @@ use mathlib.Core.List.{List}
 use lib.ListN.{take}
 use Prim.Native.Nat.{ℕ}
 use Rattle.told.specs.Over.{over}
+use Rattle.input.specs.Input.{failed}
 use Rattle.running.specs.Run.{Ran}
-use Rattle.input.specs.declared.once.Over.{Over}
+use Rattle.input.specs.declared.Over.{Over}
 
 -- a program that prints one text for an input: two runs that read the same leave the same text
 pub one_ran : (Prints : List ℕ → List ℕ → Type 0) → ((input t u : List ℕ) → Prints input t → Prints input u → t ≡ u)
     → (o : Over) (input old x y : List ℕ) → Ran Prints o input old x → Ran Prints o input old y → x ≡ y
-one_ran Prints one o input old x y h k = go o.failed h.1 k.1
+one_ran Prints one o input old x y h k = go (failed o) h.1 k.1
   where
     go : (b : Bool) → cond b (x ≡ old) ((t : List ℕ) × Prints (take o.bytes input) t × (x ≡ over t old))
         → cond b (y ≡ old) ((u : List ℕ) × Prints (take o.bytes input) u × (y ≡ over u old)) → x ≡ y

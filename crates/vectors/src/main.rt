@@ -26,13 +26,12 @@ fn run(
     secs: &mut [i64],
     tally: &mut [u64; tally::PLACES],
 ) {
-    let mut failure = None;
-    let over = input::read_all(&mut rt.reader(), bytes, &mut failure);
-    if let Some(why) = failure {
+    let over = input::read_all(&mut rt.reader(), bytes);
+    if let Some(why) = over.failure() {
         report_failure(rt, b"vectors: standard input", why);
         return;
     }
-    let replayed = stored::replay_all(part(bytes, 0, input::bytes(over)), seqs, secs, tally);
+    let replayed = stored::replay_all(part(bytes, 0, over.bytes()), seqs, secs, tally);
     if let Err(why) = verdict::print(rt, replayed, tally) {
         report_failure(rt, b"vectors: standard output", why);
     }
