@@ -5,6 +5,7 @@
 mod code; // code.rt: one code
 pub mod inner; // inner.rt: what our own crates call
 mod missing; // missing.rt: what of a code is missing
+mod number; // number.rt: the number of a refusal
 mod prefix; // prefix.rt: the ones before a code's difference
 mod window; // window.rt: the bits at a place
 

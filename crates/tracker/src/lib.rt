@@ -9,6 +9,7 @@ ghost use Rattle.tracker.specs.Table.{check_of};
 use totals::Totals;
 
 pub mod inner;
+mod number; // number.rt: the number of a refusal
 mod state;
 
 // A sequence number and a second are different things: one cannot be passed as the other. Both cross to other languages as the number they hold.
