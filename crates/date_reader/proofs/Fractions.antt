@@ -6,14 +6,18 @@ use Prim.Native.Nat.{ℕ, zero, suc, ◌+◌, ◌-◌, ◌*◌, ◌≤◌}
 use native.Mathlib.Omega.{arith}
 use lib.Dec.{eqb}
 use lib.ListN.{length}
-use Rattle.gorilla.specs.Parser.{Read, read, Reader, and_then}
+use Rattle.gorilla.specs.Parser.{Read, read, Reader, and_then, give}
 use Rattle.text_reader.specs.Digits.{is_digit}
 use Rattle.text_reader.proofs.Readers.{then_read}
 use Rattle.calendar.specs.declared.Date.{Date}
 use Rattle.calendar.proofs.Moments.{and_true}
-use Rattle.date_reader.specs.Grammar.{bad, more_digits, either, up_to, fraction, date_time}
+use Rattle.date_reader.specs.Grammar.{bad, more_digits, either, up_to, fraction, offset, end, date_time}
 use Rattle.date_reader.specs.Fraction.{all_digits, other_first}
-use Rattle.date_reader.specs.Inner.{after_head}
+use Rattle.date_reader.specs.declared.Stamp.{Stamp}
+
+-- what follows the local date and time of day
+abbrev after_head : Date → List ℕ → Read Stamp
+after_head d s = and_then (fraction s) (λ _ s. and_then (offset s) (λ z s. and_then (end s) (λ _. give (record { date = d; zone = z }))))
 
 -- ---- what is read of k bytes and then of X or of Y
 abbrev Same : {A : Type 0} → List ℕ → List ℕ → ℕ → Reader A → Type 0

@@ -1,6 +1,5 @@
 -- Laws that belong to no one function.
-mod At
-mod Parts
+mod Counted
 pub mod Ends
 pub mod Fractions
 pub mod Written

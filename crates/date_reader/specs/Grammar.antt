@@ -3,8 +3,8 @@ use Rattle.std.specs.Prelude.{ℕ, zero, suc, ◌+◌, ◌-◌, ◌*◌, Bool, t
 use Prim.Native.Char.{code}
 use Rattle.gorilla.specs.Parser.{Read, read, refused, Reader, ◌>>=◌, ◌>>◌, give}
 use Rattle.text_reader.specs.Digits.{is_digit}
-use Rattle.calendar.specs.declared.Date.{Date}
 use Rattle.date_reader.specs.declared.Zone.{Zone}
+use Rattle.date_reader.specs.declared.Stamp.{Stamp}
 
 abbrev pub bad : {A : Type 0} → Read A
 bad = refused (25 ∷ [])
@@ -63,11 +63,6 @@ offset (x ∷ s) =
 unfoldable pub end : Reader (Unit {0})
 end [] = read tt []
 end (x ∷ s) = bad
-
--- what a date-time says: the local date and time of day, and how far they are from UTC
-pub record Stamp : Type 0 where
-  pub date : Date
-  pub zone : Zone
 
 -- date-time = full-date "T" full-time, and nothing after it
 unfoldable pub date_time : Reader Stamp

@@ -2,7 +2,6 @@
 #![tactic(auto)]
 
 pub mod inner; // inner.rt: the whole text
-mod places; // places.rt: numbers at a place
 mod steps; // steps.rt: the parts of a date-time
 
 use calendar::Date;
@@ -15,9 +14,9 @@ pub struct Zone {
     pub minutes: u64,
 }
 
-// What the text is: the local date and time of day with its zone, whatever their numbers are, or not of the grammar.
+// What a date-time says, whatever its numbers are: the local date and time of day, and how far they are from UTC.
 #[derive(Clone, Copy)]
-pub enum StampRead {
-    At(Date, Zone),
-    NotTheGrammar,
+pub struct Stamp {
+    pub date: Date,
+    pub zone: Zone,
 }

@@ -1,137 +1,117 @@
-// The parts of a date-time: the local date and time of day, which have 19 bytes, a fraction, the zone.
-ghost use Rattle.std.specs.Prelude.{◌≤◌, length};
-ghost use Rattle.date_reader.specs.Inner.{HeadAt, MoreAt, FractionAt, OffsetAt, ZoneAt};
+// The parts of a date-time, each read from the front of the text: what it says, with what is left of the text, or `None`.
+ghost use Rattle.std.specs.Prelude.{◌≡◌, ◌≤◌, [], ◌∷◌};
+ghost use Rattle.gorilla.specs.Parser.{read};
+ghost use Rattle.text_reader.specs.Inner.{as_read, as_rest};
+ghost use Rattle.date_reader.specs.Grammar.{number, either, byte, up_to, fraction, num_offset, offset, end};
+ghost use Rattle.date_reader.specs.Inner.{told_end};
 
 use crate::Zone;
-use crate::places::{group_at, number_at};
-use calendar::Date;
-use text_reader::inner::{digit_at, is_at};
+use text_reader::inner::digit;
 
-#[derive(Clone, Copy)]
-pub enum HeadRead {
-    At(Date),
-    Nothing,
-}
-
-#[derive(Clone, Copy)]
-pub enum ZoneRead {
-    At(Zone),
-    Nothing,
-}
-
-// The local date and time of day, to the second.
-pub fn head_of(s: &[u8]) -> HeadRead
-    ensures { HeadAt s.now result }
+// The number of k digits.
+#[tactic(auto, using(crate::proofs::Counted::partly_none, crate::proofs::Counted::partly_more, crate::proofs::Counted::partly_bad, crate::proofs::Counted::partly_fits, crate::proofs::Counted::partly_all))]
+pub fn number(s: &[u8], k: usize) -> Option<(u64, &[u8])>
+    requires { k ≤ 4 }
+    ensures { as_read (25 ∷ []) result ≡ number k s.now }
 {
-    let year = group_at(s, 0, 4, b'-', b'-');
-    if 9999 < year {
-        return HeadRead::Nothing;
+    let mut n = 0;
+    let mut rest = s;
+    'digits: for _ in 0..k {
+        let (d, after) = digit(rest)?;
+        n = n * 10 + d;
+        rest = after;
     }
-    let month = group_at(s, 5, 2, b'-', b'-');
-    if 9999 < month {
-        return HeadRead::Nothing;
-    }
-    let day = group_at(s, 8, 2, b'T', b't');
-    if 9999 < day {
-        return HeadRead::Nothing;
-    }
-    let hour = group_at(s, 11, 2, b':', b':');
-    if 9999 < hour {
-        return HeadRead::Nothing;
-    }
-    let minute = group_at(s, 14, 2, b':', b':');
-    if 9999 < minute {
-        return HeadRead::Nothing;
-    }
-    let second = number_at(s, 17, 2);
-    if 9999 < second {
-        return HeadRead::Nothing;
-    }
-    HeadRead::At(Date {
-        year,
-        month,
-        day,
-        hour,
-        minute,
-        second,
-    })
+    Some((n, rest))
 }
 
-// The place after up to eight more digits of a fraction.
-fn more_end(s: &[u8], at: usize) -> usize
-    requires { at ≤ length s.now }
-    ensures { MoreAt s.now at result }
+// One of two bytes, which are a letter in either case.
+#[tactic(auto, unfolding(crate::specs::Grammar::either))]
+pub fn either(s: &[u8], a: u8, b: u8) -> Option<&[u8]>
+    ensures { as_rest (25 ∷ []) result ≡ either a b s.now }
 {
-    let mut p = at;
-    let mut k: usize = 0;
-    while k < 8 {
-        let d = digit_at(s, p);
-        if 9 < d {
-            return p;
+    match s {
+        [x, rest @ ..] if *x == a || *x == b => Some(rest),
+        _ => None,
+    }
+}
+
+pub fn byte(s: &[u8], a: u8) -> Option<&[u8]>
+    ensures { as_rest (25 ∷ []) result ≡ byte a s.now }
+{
+    either(s, a, a)
+}
+
+// What is left after all digits that stand here, but after k at most.
+#[tactic(auto, using(crate::proofs::Counted::up_to_more, crate::proofs::Counted::up_to_end, crate::proofs::Counted::up_to_all))]
+fn up_to(s: &[u8], k: usize) -> &[u8]
+    ensures { up_to k s.now ≡ read tt result.now }
+{
+    let mut rest = s;
+    'digits: for _ in 0..k {
+        let Some((_, after)) = digit(rest) else {
+            break;
+        };
+        rest = after;
+    }
+    rest
+}
+
+// Nothing, or a point and one to nine digits.
+#[tactic(auto, unfolding(crate::specs::Grammar::fraction))]
+pub fn fraction(s: &[u8]) -> Option<&[u8]>
+    ensures { as_rest (25 ∷ []) result ≡ fraction s.now }
+{
+    match s {
+        [b'.', rest @ ..] => {
+            let (_, rest) = number(rest, 1)?;
+            Some(up_to(rest, 8))
         }
-        p += 1;
-        k += 1;
+        _ => Some(s),
     }
-    p
 }
 
-// The place after the fraction, if there is one; 0 where a point has no digit after it.
-pub fn fraction_end(s: &[u8]) -> usize
-    requires { 19 ≤ length s.now }
-    ensures { FractionAt s.now result }
+// An offset after its sign.
+fn num_offset(s: &[u8], ahead: bool) -> Option<(Zone, &[u8])>
+    ensures { as_read (25 ∷ []) result ≡ num_offset ahead s.now }
 {
-    if is_at(s, 19, b'.', b'.') {
-        if 9 < digit_at(s, 20) {
-            return 0;
-        }
-        return more_end(s, 21);
-    }
-    19
-}
-
-// An offset after its sign, with which the text must end.
-fn offset_at(s: &[u8], at: usize, ahead: bool) -> ZoneRead
-    requires { at ≤ length s.now }
-    ensures { OffsetAt s.now at ahead result }
-{
-    let hours = group_at(s, at, 2, b':', b':');
-    if 9999 < hours {
-        return ZoneRead::Nothing;
-    }
-    let minutes = number_at(s, at + 3, 2);
-    if 9999 < minutes {
-        return ZoneRead::Nothing;
-    }
-    if at + 5 < s.len() {
-        return ZoneRead::Nothing;
-    }
-    ZoneRead::At(Zone {
+    let (hours, s) = number(s, 2)?;
+    let s = byte(s, b':')?;
+    let (minutes, s) = number(s, 2)?;
+    let zone = Zone {
         ahead,
         hours,
         minutes,
-    })
+    };
+    Some((zone, s))
 }
 
-// The zone, with which the text must end.
-pub fn zone_at(s: &[u8], at: usize) -> ZoneRead
-    requires { at ≤ length s.now }
-    ensures { ZoneAt s.now at result }
+// The zone.
+#[tactic(auto, unfolding(crate::specs::Grammar::offset))]
+pub fn offset(s: &[u8]) -> Option<(Zone, &[u8])>
+    ensures { as_read (25 ∷ []) result ≡ offset s.now }
 {
-    if is_at(s, at, b'Z', b'z') {
-        if at + 1 < s.len() {
-            return ZoneRead::Nothing;
-        }
-        return ZoneRead::At(Zone {
-            ahead: true,
-            hours: 0,
-            minutes: 0,
-        });
+    match s {
+        [b'Z' | b'z', rest @ ..] => Some((UTC, rest)),
+        [b'+', rest @ ..] => num_offset(rest, true),
+        [b'-', rest @ ..] => num_offset(rest, false),
+        _ => None,
     }
-    if is_at(s, at, b'+', b'+') {
-        return offset_at(s, at + 1, true);
-    }
-    if is_at(s, at, b'-', b'-') {
-        return offset_at(s, at + 1, false);
-    }
-    ZoneRead::Nothing
 }
+
+// No byte follows.
+#[tactic(auto, unfolding(crate::specs::Grammar::end))]
+pub fn end(s: &[u8]) -> Option<()>
+    ensures { told_end result ≡ end s.now }
+{
+    match s {
+        [] => Some(()),
+        _ => None,
+    }
+}
+
+// No offset.
+const UTC: Zone = Zone {
+    ahead: true,
+    hours: 0,
+    minutes: 0,
+};

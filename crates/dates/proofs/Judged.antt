@@ -11,12 +11,12 @@ use mir.Syntax.{w64}
 use mir.Val.{SFits, to_z, of_z}
 use mir.Facts.{to_z-of_z, to_z_pos}
 use Rattle.order.proofs.Domain.{inside_mag, mag_diff}
-use Rattle.calendar.specs.declared.Date.{Date}
 use Rattle.calendar.specs.Calendar.{second_of, is_date}
 use Rattle.calendar.proofs.Laws.{calendar}
 use Rattle.calendar.proofs.Moments.{and_true}
 use Rattle.date_reader.specs.declared.Zone.{Zone}
-use Rattle.dates.specs.Read.{is_offset, offset_of, if_inside, judged}
+use Rattle.date_reader.specs.declared.Stamp.{Stamp}
+use Rattle.dates.specs.Read.{is_offset, offset_of, utc_of, if_inside, judged}
 
 -- ---- offsets
 abbrev pub seconds : Zone → ℕ
@@ -66,12 +66,10 @@ module _ (z : Zone) (h : z.hours ≤ 23) (k : z.minutes ≤ 59) where
   behind_is e = to_z-of_z behind_fits ∙ rw seen (offset_behind z e)
 
 -- ---- the second in UTC
-module _ (d : Date) (z : Zone) where
-  module _ (h : is_date d ≡ true) where
-    module _ (k : is_offset z ≡ true) where
-      pub both : if_inside (second_of d -ℤ offset_of z) ≡ judged (record { date = d; zone = z })
-      unfolding judged
-      both = rw (h, k)
+module _ (r : Stamp) (h : is_date r.date ≡ true) (k : is_offset r.zone ≡ true) where
+  pub both : if_inside (utc_of r) ≡ judged r
+  unfolding judged
+  both = rw (h, k)
 
-      pub utc_fits : SFits w64 (second_of d -ℤ offset_of z)
-      utc_fits = record { sfits = omega (arith, inside_mag (second_of d) (calendar.in_domain d h), offset_mag z k, mag_diff (second_of d) (offset_of z)) }
+  pub utc_fits : SFits w64 (utc_of r)
+  utc_fits = record { sfits = omega (arith, inside_mag (second_of r.date) (calendar.in_domain r.date h), offset_mag r.zone k, mag_diff (second_of r.date) (offset_of r.zone)) }

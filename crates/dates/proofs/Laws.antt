@@ -27,7 +27,8 @@ use Rattle.date_writer.proofs.Digits.{valid_digits}
 use Rattle.date_writer.proofs.Texts.{dated_text, one_text, dated-length, dated-order, from_month, from_day, from_hour, from_minute, from_second}
 use Rattle.text_reader.proofs.Readers.{then_read}
 use Rattle.date_reader.specs.declared.Zone.{Zone}
-use Rattle.date_reader.specs.Grammar.{either, fraction, offset, end, Stamp, date_time}
+use Rattle.date_reader.specs.declared.Stamp.{Stamp}
+use Rattle.date_reader.specs.Grammar.{either, fraction, offset, end, date_time}
 use Rattle.date_reader.proofs.Ends.{whole}
 use Rattle.date_reader.proofs.Fractions.{left_out}
 use Rattle.date_reader.proofs.Written.{two-read, four-read}

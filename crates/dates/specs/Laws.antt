@@ -8,7 +8,8 @@ use Rattle.calendar.specs.Laws.{before}
 use Rattle.gorilla.specs.Parser.{read}
 use Rattle.date_writer.specs.DateText.{Dated}
 use Rattle.text.specs.Ascii.{ascii}
-use Rattle.date_reader.specs.Grammar.{Stamp, date_time}
+use Rattle.date_reader.specs.declared.Stamp.{Stamp}
+use Rattle.date_reader.specs.Grammar.{date_time}
 use Rattle.date_reader.specs.Fraction.{all_digits, other_first}
 use Rattle.dates.specs.Read.{is_offset, utc_of, read_date}
 use Rattle.dates.specs.Write.{WritesDate}

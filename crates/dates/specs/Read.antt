@@ -5,7 +5,8 @@ use Rattle.limits.specs.Domain.{outside}
 use Rattle.calendar.specs.Calendar.{second_of, is_date}
 use Rattle.gorilla.specs.Parser.{Read, read, refused as not_read}
 use Rattle.date_reader.specs.declared.Zone.{Zone}
-use Rattle.date_reader.specs.Grammar.{Stamp, date_time}
+use Rattle.date_reader.specs.declared.Stamp.{Stamp}
+use Rattle.date_reader.specs.Grammar.{date_time}
 
 unfoldable pub is_offset : Zone → Bool
 is_offset z = leb z.hours 23 && leb z.minutes 59

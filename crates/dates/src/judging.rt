@@ -4,9 +4,8 @@ ghost use Rattle.dates.specs.Refusal.{told_read};
 ghost use Rattle.dates.specs.Read.{is_offset, offset_of, if_inside, judged};
 
 use crate::Refusal;
-use calendar::Date;
 use calendar::inner::{is_date, second_of};
-use date_reader::Zone;
+use date_reader::{Stamp, Zone};
 use limits::inner::out_of_domain;
 use tracker::Second;
 
@@ -38,11 +37,11 @@ fn if_inside(s: i64) -> Result<Second, Refusal>
 
 // 26 before 27: whether the date is there is asked of the local one, as it stands in the text.
 #[tactic(auto, using(crate::proofs::Judged::utc_fits, crate::proofs::Judged::both), unfolding(crate::specs::Read::judged))]
-pub fn judge(d: Date, z: Zone) -> Result<Second, Refusal>
-    ensures { told_read result ≡ judged (record { date = d; zone = z }) }
+pub fn judge(stamp: Stamp) -> Result<Second, Refusal>
+    ensures { told_read result ≡ judged stamp }
 {
-    if !is_date(d) || !is_offset(z) {
+    if !is_date(stamp.date) || !is_offset(stamp.zone) {
         return Err(Refusal::NoSuchTime);
     }
-    if_inside(second_of(d) - offset_of(z))
+    if_inside(second_of(stamp.date) - offset_of(stamp.zone))
 }

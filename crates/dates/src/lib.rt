@@ -11,7 +11,6 @@ ghost use Rattle.dates.specs.Write.{WritesDate};
 
 mod judging; // judging.rt: the second that a date-time says
 
-use date_reader::StampRead;
 use date_reader::inner::stamp_of;
 use date_writer::inner::{DATE_BYTES, put_date};
 use judging::judge;
@@ -50,8 +49,5 @@ pub fn write_date(second: Second, out: &mut [u8]) -> Result<usize, Refusal>
 pub fn read_date(bytes: &[u8]) -> Result<Second, Refusal>
     ensures { told_read result ≡ read_date bytes.now }
 {
-    match stamp_of(bytes) {
-        StampRead::At(date, zone) => judge(date, zone),
-        StampRead::NotTheGrammar => Err(Refusal::NotTheGrammar),
-    }
+    judge(stamp_of(bytes).ok_or(Refusal::NotTheGrammar)?)
 }

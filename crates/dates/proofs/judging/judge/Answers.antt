@@ -6,8 +6,8 @@ use Rattle.dates.proofs.judging.judge.Goals as goal
 
 pub returns : goal.returns
 returns c =
-    let there : is_date c.args.d ≡ true = search rules in
-    let zoned : is_offset c.args.z ≡ true = search rules in
-    let fits = utc_fits c.args.d c.args.z there zoned in
-    let utc : to_z w64 (of_z w64 (to_z w64 (of_z w64 c.second_of.result) -ℤ to_z w64 (of_z w64 c.offset_of.result))) ≡ second_of c.args.d -ℤ offset_of c.args.z = search (rules, fits) in
-    rw utc at c.if_inside.ensures ∙ both c.args.d c.args.z there zoned
+    let there : is_date c.args.stamp.date ≡ true = search rules in
+    let zoned : is_offset c.args.stamp.zone ≡ true = search rules in
+    let fits = utc_fits c.args.stamp there zoned in
+    let utc : to_z w64 (of_z w64 (to_z w64 (of_z w64 c.second_of.result) -ℤ to_z w64 (of_z w64 c.offset_of.result))) ≡ second_of c.args.stamp.date -ℤ offset_of c.args.stamp.zone = search (rules, fits) in
+    rw utc at c.if_inside.ensures ∙ both c.args.stamp there zoned
