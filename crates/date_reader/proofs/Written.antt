@@ -4,7 +4,7 @@ use mathlib.Core.List.{List, ◌∷◌}
 use Prim.Native.Nat.{ℕ, ◌+◌, ◌-◌, ◌*◌, ◌/◌, ◌%◌, ◌<◌}
 use native.Mathlib.Omega.{arith}
 use Rattle.gorilla.specs.Parser.{read}
-use Rattle.text_reader.proofs.At.{is_digit_lem}
+use Rattle.text_reader.proofs.Numbers.{is_digit_lem}
 use Rattle.date_reader.specs.Grammar.{more_digits, number}
 
 -- two digits

@@ -8,8 +8,3 @@ use Rattle.question_lines.specs.Grammar.{not_the_form}
 abbrev pub as_read : {A : Type 0} → Option (A × Bor (List ℕ)) → Read A
 as_read (Some (x, rest)) = read x rest.now
 as_read None = refused not_the_form
-
--- what is left; or the refusal
-abbrev pub as_word : Option (Bor (List ℕ)) → Read (Unit {0})
-as_word (Some rest) = read tt rest.now
-as_word None = refused not_the_form

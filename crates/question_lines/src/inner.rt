@@ -5,7 +5,8 @@ ghost use Rattle.question_lines.specs.Line.{LineAt, seen};
 ghost use Rattle.question_lines.specs.Inner.{as_read};
 
 use crate::Question;
-use crate::steps::{ending, number, second, word};
+use crate::steps::{ending, number, second};
+use text_reader::inner::word;
 use tracker::Seq;
 
 // A line that asks by sequence number.

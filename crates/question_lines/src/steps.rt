@@ -1,31 +1,20 @@
-// The parts of a line, each read from the front of the bytes, with what follows: a word, a number that fits its key, what follows the number.
+// The parts of a line, each read from the front of the bytes, with what follows: a number that fits its key, what follows the number.
 ghost use Rattle.std.specs.Prelude.{◌≤◌, ◌^◌, ◌≡◌, pos, neg_ℤ, IfSome};
 ghost use Rattle.question_lines.specs.Grammar.{not_the_form, number, negative, not_negative, second, direction, ending};
-ghost use Rattle.text_reader.specs.Words.{word};
-ghost use Rattle.question_lines.specs.Inner.{as_read, as_word};
+ghost use Rattle.question_lines.specs.Inner.{as_read};
 
 use lookup::FindOption;
-use text_reader::inner::digits_at;
+use text_reader::inner::{digits, word};
 use tracker::Second;
-
-// These very bytes.
-#[tactic(auto, using(crate::proofs::Parts::word_is))]
-pub fn word<'a>(s: &'a [u8], w: &[u8]) -> Option<&'a [u8]>
-    ensures { as_word result ≡ word not_the_form w.now s.now }
-{
-    s.strip_prefix(w)
-}
 
 // One or more digits, whose number is `most` at most.
 pub fn number(s: &[u8], most: u64) -> Option<(u64, &[u8])>
     ensures read { as_read result ≡ number most s.now }
     ensures most { IfSome result (λ r. r.0 ≤ most) }
 {
-    let n = digits_at(s, 0);
-    if n.end == 0 || !n.fits || most < n.value {
-        return None;
-    }
-    Some((n.value, &s[n.end..]))
+    let (value, s) = digits(s)?;
+    let n = value?;
+    if most < n { None } else { Some((n, s)) }
 }
 
 // A second with a minus.

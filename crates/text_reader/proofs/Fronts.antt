@@ -1,11 +1,12 @@
 -- Digits and words at the front of a text. Assumes nothing.
-use Rattle.std.proofs.Common.{◌≡◌, refl, ap, ◌∙◌, sym, ℕ, ◌+◌, ◌-◌, ◌*◌, ◌^◌, ◌≤◌, ◌<◌, Bool, true, false, ltb, eqb, List, [], ◌∷◌, length, take, drop, Option, Some, None, Bor, MatchOption, leb, arith}
+use Rattle.std.proofs.Common.{◌≡◌, refl, ap, ◌∙◌, sym, ℕ, ◌+◌, ◌-◌, ◌*◌, ◌^◌, ◌≤◌, Bool, true, false, ltb, eqb, List, [], ◌∷◌, length, take, drop, Option, Some, None, Bor, MatchOption, leb, arith}
 use Rattle.std.specs.Cmp.Lexicographic.{pointwise}
 use mathlib.Core.Bool.{cond, ◌&&◌}
-use borrow.Author.Tests.{lt-ltb, le-ltb, ltb-false, leb-true}
-use Rattle.gorilla.specs.Parser.{Read, read, refused}
+use borrow.Author.Tests.{lt-ltb, le-ltb, ltb-false}
+use Rattle.gorilla.specs.Parser.{read, refused}
 use Rattle.text_reader.specs.Digits.{is_digit, more_of, digits}
 use Rattle.text_reader.specs.Words.{word}
+use Rattle.text_reader.proofs.Numbers.{more_lacks}
 use Rattle.text_reader.specs.Inner.{Lacks, as_rest, digit_of, in_64_bits, one_more, DigitsOf}
 
 -- ---- words
@@ -22,7 +23,7 @@ word_is l (a ∷ w) (x ∷ s) = go (eqb x a) (word_is l w s)
 
 pub stripped : (w s : List ℕ) (r : Option (Bor (List ℕ)))
     → MatchOption r (pointwise eqb (take (length w) s) w ≡ false)
-        (λ x. (pointwise eqb (take (length w) s) w ≡ true) × (x.now ≡ drop (length w) s) × (length x.now + length w ≡ length s))
+    (λ x. (pointwise eqb (take (length w) s) w ≡ true) × (x.now ≡ drop (length w) s) × (length x.now + length w ≡ length s))
     → (l : List ℕ) → as_rest l r ≡ word l w s
 stripped w s (Some x) h l = rw (word_is l w s, h.0, h.1)
 stripped w s None h l = rw (word_is l w s, h)
@@ -70,14 +71,9 @@ digit_most {d = d} a = most a.byte a.is a.number
     most : (x : ℕ) → (leb 48 x && leb x 57) ≡ true → x - 48 ≡ d → d ≤ 9
     most x e f = grind arith
 
-more_there : (s rest : List ℕ) (d n : ℕ) → Digit s d rest → more_of n s ≡ more_of (n * 10 + d) rest
+more_digit : (s rest : List ℕ) (d n : ℕ) → Digit s d rest → more_of n s ≡ more_of (n * 10 + d) rest
 unfolding more_of
-more_there s rest d n a = rw (a.there, a.is, a.number)
-
-more_lacks : (s : List ℕ) (n : ℕ) → Lacks is_digit s → more_of n s ≡ read n s
-unfolding more_of
-more_lacks [] n h = refl
-more_lacks (x ∷ s) n h = rw h
+more_digit s rest d n a = rw (a.there, a.is, a.number)
 
 some_digits : (s rest : List ℕ) (d : ℕ) → Digit s d rest → (l : List ℕ) → digits l s ≡ more_of 0 s
 unfolding digits
@@ -107,14 +103,14 @@ so_far_one s rest d h =
     record {
       number = d;
       told = sym (rw (lt-ltb d (2 ^ 64) (omega (arith, digit_most a))));
-      read = λ l. let e : 0 * 10 + d ≡ d = omega arith in some_digits s rest d a l ∙ rw e at (more_there s rest d 0 a);
+      read = λ l. let e : 0 * 10 + d ≡ d = omega arith in some_digits s rest d a l ∙ rw e at (more_digit s rest d 0 a);
     }
 
 pub so_far_more : (s : List ℕ) (value : Option ℕ) (rest after : List ℕ) (d : ℕ) → SoFar s value rest → digit_of rest ≡ Some (d, after) → SoFar s (one_more value d) after
 so_far_more s value rest after d f h = record {
   number = f.number * 10 + d;
   told = grown value f.number d f.told;
-  read = λ l. f.read l ∙ more_there rest after d f.number (digit_there rest after d h);
+  read = λ l. f.read l ∙ more_digit rest after d f.number (digit_there rest after d h);
 }
 
 pub so_far_all : (s : List ℕ) (value : Option ℕ) (rest : List ℕ) → SoFar s value rest → digit_of rest ≡ None → DigitsOf s (Some (value, rest))
