@@ -1,6 +1,8 @@
 // The digest of FORMAT.md, of an image and of pairs.
-ghost use Rattle.std.specs.Prelude.{◌≡◌, ℕ};
+ghost use Rattle.std.specs.Prelude.{◌≡◌, ℕ, bit_xor};
 ghost use Rattle.std.specs.Int.{w64, cast_unsigned};
+ghost use Rattle.std.specs.List.{fold};
+ghost use Rattle.vector_bodies.specs.Digest.{mix};
 
 use vector_bytes::Body;
 
@@ -37,15 +39,20 @@ impl Bits for i64 {
 }
 
 // A step of xorshift on 64 bits.
-pub fn mix(x: u64) -> u64 {
+pub fn mix(x: u64) -> u64
+    ensures { result ≡ mix x }
+{
     let a = x ^ (x << 13);
     let b = a ^ (a >> 7);
     b ^ (b << 17)
 }
 
-fn digest<T: Bits>(values: &[T]) -> u64 {
-    let start = 88172645463325252;
-    values.iter().fold(start, |d, x| mix(d ^ x.bits()))
+const START: u64 = 88172645463325252;
+
+fn digest<T: Bits>(values: &[T]) -> u64
+    ensures { result ≡ fold (λ d x. mix (bit_xor d (T.bits x))) START values.now }
+{
+    values.iter().fold(START, |d, x| mix(d ^ x.bits()))
 }
 
 // Whether an image has the length and the digest that a body goes on with.

@@ -36,21 +36,6 @@ pub struct Rule {
 }
 
 impl Rule {
-    // The rule that a body goes on with.
-    pub fn read(body: &mut Body<'_>) -> Rule {
-        let count: u32 = body.read();
-        Rule {
-            count: count as usize,
-            x: body.read(),
-            seq: body.read(),
-            seq_step: body.read(),
-            seq_mask: body.read(),
-            sec: body.read(),
-            sec_step: body.read(),
-            sec_mask: body.read(),
-        }
-    }
-
     // Goes on to the next pair.
     fn step(&mut self) {
         self.x = digest::mix(self.x);
@@ -59,13 +44,28 @@ impl Rule {
         self.seq = self.seq.wrapping_add(seq_step);
         self.sec = self.sec.wrapping_add(sec_step.cast_signed());
     }
+}
 
-    // The pairs that the rule stands for.
-    pub fn make(mut self, seqs: &mut [u64], secs: &mut [i64]) {
-        for (seq, sec) in seqs.iter_mut().zip(secs).take(self.count) {
-            *seq = self.seq;
-            *sec = self.sec;
-            self.step();
-        }
+// The rule that a body goes on with.
+pub fn rule_of(body: &mut Body<'_>) -> Rule {
+    let count: u32 = body.read();
+    Rule {
+        count: count as usize,
+        x: body.read(),
+        seq: body.read(),
+        seq_step: body.read(),
+        seq_mask: body.read(),
+        sec: body.read(),
+        sec_step: body.read(),
+        sec_mask: body.read(),
+    }
+}
+
+// The pairs that a rule stands for.
+pub fn make(mut rule: Rule, seqs: &mut [u64], secs: &mut [i64]) {
+    for (seq, sec) in seqs.iter_mut().zip(secs).take(rule.count) {
+        *seq = rule.seq;
+        *sec = rule.sec;
+        rule.step();
     }
 }
