@@ -1,95 +1,146 @@
-// Answers of the reader as compare/FORMAT.md writes them: the number of docs/RULES.md and, 256 times, the byte
-// that it also tells; and for 4 to 8 where the bytes stop. For the program `vectors`.
+// Answers of the reader as compare/FORMAT.md writes them: the number of docs/RULES.md and the byte that it also tells; and for 4 to 8 where
+// the bytes stop. For the program `vectors`.
 #![tactic(auto)]
+
+ghost use Rattle.std.specs.Prelude.{◌≡◌, drop};
+ghost use Rattle.vector_outcomes.specs.Told.{told_at};
 
 use bits::Place;
 use decoder::Refusal;
 use gorilla::Array;
-use std::num::wrapping_add_usize as after;
-use vector_bodies::digest;
-use vector_bodies::lists::values_so;
-use vector_bytes::{u8_at, u16_at, u32_at, wide};
+use vector_bytes::Body;
+use vector_lists::first;
 
-fn array_no(array: Array) -> u8 {
+// A refusal's number and the byte that it also tells; both are 0 where there is none.
+#[derive(Clone, Copy, PartialEq, Eq, Debug)]
+pub struct Told {
+    pub number: u8,
+    pub tells: u8,
+}
+
+impl Told {
+    // The refusal that a body goes on with, if any.
+    pub fn read(body: &mut Body<'_>) -> Option<Told>
+        ensures value { result ≡ told_at body.old.left.now }
+        ensures left { body.new.left.now ≡ drop 2 body.old.left.now }
+    {
+        let number: u8 = body.read();
+        let tells: u8 = body.read();
+        if (number == 0) & (tells == 0) {
+            None
+        } else {
+            Some(Told { number, tells })
+        }
+    }
+
+    fn of(why: Refusal) -> Told {
+        let (number, tells) = match why {
+            Refusal::Empty => (1, 0),
+            Refusal::Version(byte) => (2, byte),
+            Refusal::Header => (3, 0),
+            Refusal::CountCut(_, _) => (4, 0),
+            Refusal::TooMany(array) => (10, number_of(array)),
+            Refusal::FirstCut(_, _) => (5, 0),
+            Refusal::CodeEnd(_, _, _) => (6, 0),
+            Refusal::PrefixCut(_, _, _) => (7, 0),
+            Refusal::DiffCut(_, _, width, _) => (8, width),
+            Refusal::CountDiffers(array) => (9, number_of(array)),
+        };
+        Told { number, tells }
+    }
+}
+
+fn number_of(array: Array) -> u8 {
     match array {
         Array::Sequences => 0,
         Array::Seconds => 1,
     }
 }
 
-fn code_of(why: Refusal) -> usize {
-    match why {
-        Refusal::Empty => 1,
-        Refusal::Version(byte) => 2 + 256 * wide(byte),
-        Refusal::Header => 3,
-        Refusal::CountCut(_, _) => 4,
-        Refusal::TooMany(array) => 10 + 256 * wide(array_no(array)),
-        Refusal::FirstCut(_, _) => 5,
-        Refusal::CodeEnd(_, _, _) => 6,
-        Refusal::PrefixCut(_, _, _) => 7,
-        Refusal::DiffCut(_, _, width, _) => 8 + 256 * wide(width),
-        Refusal::CountDiffers(array) => 9 + 256 * wide(array_no(array)),
+// Where bytes stop: the array, the index and the place.
+#[derive(Clone, Copy, PartialEq, Eq)]
+struct Stop {
+    array: u8,
+    index: usize,
+    byte: usize,
+    bit: u8,
+}
+
+impl Stop {
+    fn read(mut body: Body<'_>) -> Stop {
+        let array: u8 = body.read();
+        let index: u32 = body.read();
+        let byte: u16 = body.read();
+        Stop {
+            array,
+            index: index as usize,
+            byte: byte.into(),
+            bit: body.read(),
+        }
+    }
+
+    fn at(array: Array, index: usize, place: Place) -> Option<Stop> {
+        Some(Stop {
+            array: number_of(array),
+            index,
+            byte: place.byte,
+            bit: place.bit,
+        })
+    }
+
+    // Refusals that have no place have none.
+    fn of(why: Refusal) -> Option<Stop> {
+        match why {
+            Refusal::CountCut(array, place) | Refusal::FirstCut(array, place) => {
+                Stop::at(array, 0, place)
+            }
+            Refusal::CodeEnd(array, index, place)
+            | Refusal::PrefixCut(array, index, place)
+            | Refusal::DiffCut(array, index, _, place) => Stop::at(array, index, place),
+            _ => None,
+        }
     }
 }
 
-// Whether the bytes stop in an array, at an index and a place that stand in a body from `at` on.
-fn stops_so(b: &[u8], at: usize, array: Array, index: usize, place: Place) -> bool {
-    let item = (u8_at(b, at) == wide(array_no(array))) & (u32_at(b, after(at, 1)) == index);
-    let byte = place.byte;
-    let bit = wide(place.bit);
-    item & (u16_at(b, after(at, 5)) == byte) & (u8_at(b, after(at, 7)) == bit)
+// Whether a refusal is the one that was told and, if it has a place, the bytes stop where a body goes on to say.
+pub fn refused_so(why: Refusal, told: Option<Told>, body: Body<'_>) -> bool {
+    let stops_so = match Stop::of(why) {
+        Some(stop) => stop == Stop::read(body),
+        None => true,
+    };
+    (told == Some(Told::of(why))) & stops_so
 }
 
-// The same of a refusal; of those that have no place, nothing is asked.
-fn place_so(why: Refusal, b: &[u8], at: usize) -> bool {
-    match why {
-        Refusal::CountCut(array, place) => stops_so(b, at, array, 0, place),
-        Refusal::FirstCut(array, place) => stops_so(b, at, array, 0, place),
-        Refusal::CodeEnd(array, index, place) => stops_so(b, at, array, index, place),
-        Refusal::PrefixCut(array, index, place) => stops_so(b, at, array, index, place),
-        Refusal::DiffCut(array, index, _, place) => stops_so(b, at, array, index, place),
-        _ => true,
-    }
-}
-
-// Whether a refusal has that code and, for 4 to 8, what a body has from `at` on.
-pub fn refused_so(why: Refusal, code: usize, b: &[u8], at: usize) -> bool {
-    (code_of(why) == code) & place_so(why, b, at)
-}
-
-// Whether an image's length is `count`, which has the code 0, or there is a refusal of that code; where the bytes stop stands in a body from `at` on.
-pub fn measured_so(bytes: &[u8], code: usize, count: usize, b: &[u8], at: usize) -> bool {
+// Whether an image has the length that a body goes on with, and the bytes after it follow; or is refused as told, and none do.
+pub fn measured_so(bytes: &[u8], told: Option<Told>, mut body: Body<'_>) -> bool {
+    let left = decoder::rest(bytes).len();
     match decoder::image_len(bytes) {
-        Ok(n) => (code == 0) & (n == count),
-        Err(why) => refused_so(why, code, b, at),
+        Ok(n) => {
+            let taken: u16 = body.read();
+            let taken = usize::from(taken);
+            told.is_none() & (n == taken) & (left.wrapping_add(taken) == bytes.len())
+        }
+        Err(why) => (left == 0) & refused_so(why, told, body),
     }
 }
 
 // Whether the list reader refuses so.
-pub fn unread_so(bytes: &[u8], code: usize, b: &[u8], at: usize) -> bool {
+pub fn unread_so(bytes: &[u8], told: Option<Told>, body: Body<'_>) -> bool {
     let mut seqs = [0u64; 8192];
     let mut secs = [0i64; 8192];
     match decoder::decode(bytes, &mut seqs, &mut secs) {
         Ok(_) => false,
-        Err(why) => refused_so(why, code, b, at),
+        Err(why) => refused_so(why, told, body),
     }
 }
 
-// Whether the list reader gives a count.
-fn counted_so(bytes: &[u8], seqs: &mut [u64], secs: &mut [i64], count: usize) -> bool {
-    match decoder::decode(bytes, seqs, secs) {
-        Ok(n) => n == count,
-        Err(_) => false,
-    }
-}
-
-// Whether it gives the n pairs of a body: listed there from `at` on or, where `brief`, known by their digests.
-pub fn read_so(bytes: &[u8], n: usize, b: &[u8], at: usize, brief: bool) -> bool {
+// Whether it gives n pairs, and they are so.
+pub fn read_so<F: FnOnce(&[u64], &[i64]) -> bool>(bytes: &[u8], n: usize, pairs_so: F) -> bool
+    requires { F.IsAlwaysCallable pairs_so }
+{
     let mut seqs = [0u64; 8192];
     let mut secs = [0i64; 8192];
-    let agreed = counted_so(bytes, &mut seqs, &mut secs, n);
-    if brief {
-        return agreed & digest::pairs_so(b, at, n, &seqs, &secs);
-    }
-    agreed & values_so(b, at, n, &seqs, &secs)
+    let read = decoder::decode(bytes, &mut seqs, &mut secs);
+    let agreed = pairs_so(first(&seqs, n), first(&secs, n));
+    agreed & read.is_ok_and(|count| count == n)
 }

@@ -6,15 +6,14 @@ mod stored; // stored.rt: the input, one record after the other
 mod verdict; // verdict.rt: what is printed
 
 use running::inner::report_failure;
-use vector_bytes::part;
-use vector_tally as tally;
+use vector_lists::first;
+use vector_tally::Tally;
 
 fn main(rt: HostRuntime) {
     let mut bytes = [0u8; stored::ROOM];
     let mut seqs = [0u64; 8192];
     let mut secs = [0i64; 8192];
-    let mut tally = [0u64; tally::PLACES];
-    run(&rt, &mut bytes, &mut seqs, &mut secs, &mut tally);
+    run(&rt, &mut bytes, &mut seqs, &mut secs);
 }
 
 // Replays standard input and prints what came of it. A read that fails is reported on standard error, and nothing is printed; a write that
@@ -24,15 +23,15 @@ fn run(
     bytes: &mut [u8; stored::ROOM],
     seqs: &mut [u64],
     secs: &mut [i64],
-    tally: &mut [u64; tally::PLACES],
 ) {
+    let mut tally = Tally::new();
     let over = input::read_all(&mut rt.reader(), bytes);
     if let Some(why) = over.failure() {
         report_failure(rt, b"vectors: standard input", why);
         return;
     }
-    let replayed = stored::replay_all(part(bytes, 0, over.bytes()), seqs, secs, tally);
-    if let Err(why) = verdict::print(rt, replayed, tally) {
+    let replayed = stored::replay_all(first(bytes, over.bytes()), seqs, secs, &mut tally);
+    if let Err(why) = verdict::print(rt, replayed, &tally) {
         report_failure(rt, b"vectors: standard output", why);
     }
 }

@@ -1,82 +1,70 @@
 // One record of any kind, replayed.
 use tracker::SequenceTracker;
 use vector_bits as bit_records;
+use vector_bytes::Body;
 use vector_codec::{image_records, list_records};
+use vector_sizes::kind::Kind;
 use vector_tables::table_records::Changed;
 use vector_tables::{table_records, view_records};
-use vector_tally as tally;
+use vector_tally::{Question, Tally};
 
-// A record of bits, lists or images: it needs no table.
-fn replay_codec(kind: u8, b: &[u8], tally: &mut [u64; tally::PLACES]) {
-    match kind {
-        b'W' => bit_records::writes(b, tally),
-        b'B' => bit_records::reads(b, tally),
-        b'N' => bit_records::extension(b, tally),
-        b'E' => list_records::listed(b, tally),
-        b'Y' => list_records::ruled(b, tally),
-        b'D' => image_records::image(b, tally),
-        _ => {}
-    }
+// The table after a record that changes it, whose answer is counted.
+fn noted(tally: &mut Tally, question: Question, changed: Changed) -> SequenceTracker {
+    tally.note(question, changed.agreed);
+    changed.table
 }
 
-// Whether the table agrees with a record that looks at it.
-fn view_so(kind: u8, b: &[u8], table: SequenceTracker, seqs: &[u64], secs: &[i64]) -> bool {
-    match kind {
-        b'S' | b'H' => view_records::shown_so(b, table, seqs, secs),
-        b'V' => view_records::saved_so(b, table, seqs, secs),
-        b'F' => view_records::second_so(b, table, seqs, secs),
-        b'K' => view_records::seq_so(b, table, seqs, secs),
-        _ => false,
-    }
-}
-
-// The table after a record that changes it.
-fn replay_change(
-    kind: u8,
-    b: &[u8],
-    table: SequenceTracker,
-    seqs: &mut [u64],
-    secs: &mut [i64],
-) -> Changed {
-    match kind {
-        b'T' => table_records::made(b, table),
-        b'O' => table_records::offered(b, table, seqs, secs),
-        b'G' => table_records::run(b, table, seqs, secs),
-        b'X' => table_records::extended(b, table, seqs, secs),
-        b'R' => table_records::restored(b, table, seqs, secs),
-        _ => Changed {
-            table: table,
-            agreed: false,
-        },
-    }
-}
-
-// What a record that looks at the table or changes it asks: of T, whether a table is made.
-fn question(kind: u8) -> usize {
-    match kind {
-        b'O' => tally::OFFERS,
-        b'G' => tally::RUNS,
-        b'X' => tally::EXTENDS,
-        b'R' => tally::RESTORES,
-        b'T' | b'S' | b'H' => tally::TABLES,
-        b'V' => tally::SAVES,
-        b'F' | b'K' => tally::LOOKUPS,
-        _ => tally::ANSWERS,
-    }
-}
-
-// A record of any kind, and the table after it. Each part passes over what is not its own, and agrees with none of it.
+// Counts the answers of a record of any kind, and gives the table after it.
 pub fn replay(
-    kind: u8,
-    b: &[u8],
+    kind: Kind,
+    body: Body<'_>,
     table: SequenceTracker,
     seqs: &mut [u64],
     secs: &mut [i64],
-    tally: &mut [u64; tally::PLACES],
+    tally: &mut Tally,
 ) -> SequenceTracker {
-    replay_codec(kind, b, tally);
-    let agreed = view_so(kind, b, table, seqs, secs);
-    let done = replay_change(kind, b, table, seqs, secs);
-    tally::note(tally, question(kind), agreed | done.agreed);
-    done.table
+    match kind {
+        Kind::Writes => bit_records::writes(body, tally),
+        Kind::Reads => bit_records::reads(body, tally),
+        Kind::Extension => bit_records::extension(body, tally),
+        Kind::List => list_records::listed(body, tally),
+        Kind::RuledList => list_records::ruled(body, tally),
+        Kind::Image => image_records::image(body, tally),
+        Kind::Shown | Kind::LongShown => {
+            let agreed = view_records::shown_so(body, table, seqs, secs);
+            tally.note(Question::Tables, agreed);
+        }
+        Kind::Saved => {
+            let agreed = view_records::saved_so(body, table, seqs, secs);
+            tally.note(Question::Saves, agreed);
+        }
+        Kind::Second => {
+            let agreed = view_records::second_so(body, table, seqs, secs);
+            tally.note(Question::Lookups, agreed);
+        }
+        Kind::Seq => {
+            let agreed = view_records::seq_so(body, table, seqs, secs);
+            tally.note(Question::Lookups, agreed);
+        }
+        Kind::Made => {
+            return noted(tally, Question::Tables, table_records::made(body, table));
+        }
+        Kind::Offer => {
+            let changed = table_records::offered(body, table, seqs, secs);
+            return noted(tally, Question::Offers, changed);
+        }
+        Kind::Run => {
+            let changed = table_records::run(body, table, seqs, secs);
+            return noted(tally, Question::Runs, changed);
+        }
+        Kind::Extended => {
+            let changed = table_records::extended(body, table, seqs, secs);
+            return noted(tally, Question::Extends, changed);
+        }
+        Kind::Restored => {
+            let changed = table_records::restored(body, table, seqs, secs);
+            return noted(tally, Question::Restores, changed);
+        }
+    }
+    table
 }

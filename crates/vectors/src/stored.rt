@@ -1,9 +1,10 @@
 // The input: its head, and one record after the other.
 use crate::records::replay;
-use std::num::wrapping_add_usize as after;
-use vector_bytes::{begins, part, u8_at, u16_at, u32_at};
+use std::fmt;
+use vector_bytes::Body;
 use vector_sizes::is_whole;
-use vector_tally as tally;
+use vector_sizes::kind::{Kind, UnknownKind};
+use vector_tally::Tally;
 
 // One byte more than the input may have, so that too long an input is seen.
 pub const ROOM: usize = 1048576;
@@ -11,11 +12,9 @@ pub const ROOM: usize = 1048576;
 // The bytes before the first record.
 const HEAD: usize = 8;
 
-// How the input is.
+// How the input is not as FORMAT.md has it.
 #[derive(Clone, Copy)]
-pub enum Input {
-    // as FORMAT.md has it
-    Whole,
+pub enum Damage {
     // longer than there is room for
     TooLong,
     // it does not begin as it should
@@ -28,64 +27,80 @@ pub enum Input {
     Followed,
 }
 
-// What came of the input, and how many of its records were replayed: all, or those before the damage.
+impl From<UnknownKind> for Damage {
+    fn from(_letter: UnknownKind) -> Damage {
+        Damage::Unknown
+    }
+}
+
+impl fmt::Display for Damage {
+    fn fmt<W: fmt::Write>(&self, f: &mut fmt::Formatter<W>) -> fmt::Result {
+        f.write_str(match self {
+            Damage::TooLong => "it has more than 1048575 bytes",
+            Damage::Headless => "it does not begin with SKV3 and their number",
+            Damage::Cut => "it ends before the end of the next one",
+            Damage::Unknown => "the next one is not as compare/FORMAT.md says",
+            Damage::Followed => "bytes follow the last one",
+        })
+    }
+}
+
+// A damaged input, and how many of its records were replayed: those before the damage.
 #[derive(Clone, Copy)]
-pub struct Replayed {
-    pub records: usize,
-    pub input: Input,
+pub struct Damaged {
+    records: u32,
+    damage: Damage,
 }
 
-// Where the record at a place ends. Past the end of the input stand zeros, so a cut head ends past it too.
-fn end_of(bytes: &[u8], at: usize) -> usize {
-    after(at, 3 + u16_at(bytes, after(at, 1)))
-}
-
-// What came of n records, the last of which ends at a place.
-fn ended(bytes: &[u8], n: usize, at: usize) -> Replayed {
-    if at < bytes.len() {
-        return Replayed {
-            records: n,
-            input: Input::Followed,
-        };
-    }
-    Replayed {
-        records: n,
-        input: Input::Whole,
+impl fmt::Display for Damaged {
+    fn fmt<W: fmt::Write>(&self, f: &mut fmt::Formatter<W>) -> fmt::Result {
+        let Damaged { records, damage } = self;
+        write!(f, "the input is damaged after {records} records: {damage}")
     }
 }
 
-// Replays n records.
+// The next record: its kind and its body.
+fn next_record<'a>(input: &mut Body<'a>) -> Result<(Kind, Body<'a>), Damage> {
+    if input.left.len() < 3 {
+        return Err(Damage::Cut);
+    }
+    let letter: u8 = input.read();
+    let length: u16 = input.read();
+    let length = usize::from(length);
+    if input.left.len() < length {
+        return Err(Damage::Cut);
+    }
+    let left = input.part(length);
+    let kind = Kind::try_from(letter)?;
+    if !is_whole(kind, left) {
+        return Err(Damage::Unknown);
+    }
+    Ok((kind, Body { left }))
+}
+
+// Replays n records, after which the input ends.
 fn replay_each(
-    bytes: &[u8],
-    n: usize,
+    mut input: Body<'_>,
+    n: u32,
     seqs: &mut [u64],
     secs: &mut [i64],
-    tally: &mut [u64; tally::PLACES],
-) -> Replayed {
+    tally: &mut Tally,
+) -> Result<(), Damaged> {
     let mut table = fresh::new();
-    let mut at = HEAD;
-    let mut done = 0;
-    while done < n {
-        let end = end_of(bytes, at);
-        if end > bytes.len() {
-            return Replayed {
-                records: done,
-                input: Input::Cut,
-            };
+    for records in 0..n {
+        match next_record(&mut input) {
+            Ok((kind, body)) => table = replay(kind, body, table, seqs, secs, tally),
+            Err(damage) => return Err(Damaged { records, damage }),
         }
-        let kind = u8_at(bytes, at) as u8;
-        let body = part(bytes, after(at, 3), end);
-        if !is_whole(kind, body) {
-            return Replayed {
-                records: done,
-                input: Input::Unknown,
-            };
-        }
-        table = replay(kind, body, table, seqs, secs, tally);
-        at = end;
-        done += 1;
     }
-    ended(bytes, n, at)
+    if input.left.is_empty() {
+        Ok(())
+    } else {
+        Err(Damaged {
+            records: n,
+            damage: Damage::Followed,
+        })
+    }
 }
 
 // Replays the input, up to its end or to what is damaged.
@@ -93,19 +108,22 @@ pub fn replay_all(
     bytes: &[u8],
     seqs: &mut [u64],
     secs: &mut [i64],
-    tally: &mut [u64; tally::PLACES],
-) -> Replayed {
+    tally: &mut Tally,
+) -> Result<(), Damaged> {
     if bytes.len() >= ROOM {
-        return Replayed {
+        return Err(Damaged {
             records: 0,
-            input: Input::TooLong,
-        };
+            damage: Damage::TooLong,
+        });
     }
-    if (bytes.len() < HEAD) | !begins(bytes, b"SKV3") {
-        return Replayed {
+    if (bytes.len() < HEAD) | !bytes.starts_with(b"SKV3") {
+        return Err(Damaged {
             records: 0,
-            input: Input::Headless,
-        };
+            damage: Damage::Headless,
+        });
     }
-    replay_each(bytes, u32_at(bytes, 4), seqs, secs, tally)
+    let mut input = Body { left: bytes };
+    input.part(4);
+    let n: u32 = input.read();
+    replay_each(input, n, seqs, secs, tally)
 }
