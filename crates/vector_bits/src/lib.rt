@@ -77,5 +77,8 @@ pub fn reads(mut body: Body<'_>, tally: &mut Tally) {
 pub fn extension(mut body: Body<'_>, tally: &mut Tally) {
     let got = signed::sign_extend(body.read(), body.read());
     let low: u32 = body.read();
-    tally.note(Question::Extensions, got == Ok(i64::from(low.cast_signed())));
+    tally.note(
+        Question::Extensions,
+        got == Ok(i64::from(low.cast_signed())),
+    );
 }
