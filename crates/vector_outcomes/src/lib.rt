@@ -14,7 +14,7 @@ use vector_lists::first;
 // A refusal's number and the byte that it also tells; both are 0 where there is none.
 #[derive(Clone, Copy, PartialEq, Eq, Debug)]
 pub struct Told {
-    pub number: u8,
+    pub number: u64,
     pub tells: u8,
 }
 
@@ -29,24 +29,24 @@ impl Told {
         if (number == 0) & (tells == 0) {
             None
         } else {
-            Some(Told { number, tells })
+            Some(Told {
+                number: number.into(),
+                tells,
+            })
         }
     }
 
     fn of(why: Refusal) -> Told {
-        let (number, tells) = match why {
-            Refusal::Empty => (1, 0),
-            Refusal::Version(byte) => (2, byte),
-            Refusal::Header => (3, 0),
-            Refusal::CountCut(_, _) => (4, 0),
-            Refusal::TooMany(array) => (10, number_of(array)),
-            Refusal::FirstCut(_, _) => (5, 0),
-            Refusal::CodeEnd(_, _, _) => (6, 0),
-            Refusal::PrefixCut(_, _, _) => (7, 0),
-            Refusal::DiffCut(_, _, width, _) => (8, width),
-            Refusal::CountDiffers(array) => (9, number_of(array)),
+        let tells = match why {
+            Refusal::Version(byte) => byte,
+            Refusal::TooMany(array) | Refusal::CountDiffers(array) => number_of(array),
+            Refusal::DiffCut(_, _, width, _) => width,
+            _ => 0,
         };
-        Told { number, tells }
+        Told {
+            number: why.number(),
+            tells,
+        }
     }
 }
 
