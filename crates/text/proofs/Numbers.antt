@@ -1,5 +1,5 @@
 -- Numbers and lines as text: their cases, and how long they are. Assumes nothing.
-use Prim.Native.Nat.{ℕ, zero, suc, ◌+◌, ◌-◌, ◌/◌, ◌%◌, ◌^◌, ◌≤◌, ◌<◌}
+use Prim.Native.Nat.{ℕ, zero, suc, ◌+◌, ◌/◌, ◌%◌, ◌^◌, ◌≤◌, ◌<◌}
 use native.Mathlib.Nat.{pow-suc}
 use native.Mathlib.Omega.{arith}
 use mathlib.Core.Path.{◌≡◌, refl, sym, ap, ◌∙◌, subst}
@@ -9,8 +9,6 @@ use lib.Dec.{T, ltb}
 use borrow.Author.Tests.{ltb-true, ltb-false}
 use lib.IntN.{ℤ, pos, negsuc, nat_abs}
 use lib.Signed.{lt_z}
-use mir.Syntax.{w64}
-use mir.Val.{SFits, of_z}
 use lib.ListN.{length, length-append}
 use Rattle.text.specs.Text.{digits, decimal, signed_decimal, word_line}
 
@@ -71,20 +69,13 @@ unfolding signed_decimal
 signed-length (pos n) = omega (arith, decimal-length n)
 signed-length (negsuc n) = omega (arith, decimal-length (suc n))
 
--- ---- signs: the bits of a negative number are those of 2^64 less its magnitude
-bits_of_lem : (z : ℤ) → SFits w64 z → lt_z z (pos 0) ≡ true → (2 ^ 63 ≤ of_z w64 z) × (18446744073709551615 - of_z w64 z + 1 ≡ nat_abs z)
-bits_of_lem (pos n) f e = absurd (omega (arith, ltb-true))
-bits_of_lem (negsuc n) f e = (omega (arith, f.sfits), omega (arith, f.sfits))
-
-pub upper : (z : ℤ) → SFits w64 z → lt_z z (pos 0) ≡ true → 2 ^ 63 ≤ of_z w64 z
-upper z f e = (bits_of_lem z f e).0
-
-pub negative : (z : ℤ) → SFits w64 z → lt_z z (pos 0) ≡ true → signed_decimal z ≡ (45 ∷ []) ++ decimal (18446744073709551615 - of_z w64 z + 1)
+-- ---- signs
+pub negative : (z : ℤ) → lt_z z (pos 0) ≡ true → signed_decimal z ≡ (45 ∷ []) ++ decimal (nat_abs z)
 unfolding signed_decimal
-negative (pos n) f e = absurd (omega (arith, ltb-true))
-negative (negsuc n) f e = rw (bits_of_lem (negsuc n) f e).1
+negative (pos n) e = absurd (omega (arith, ltb-true))
+negative (negsuc n) e = refl
 
-pub positive : (z : ℤ) → lt_z z (pos 0) ≡ false → signed_decimal z ≡ decimal (of_z w64 z)
+pub positive : (z : ℤ) → lt_z z (pos 0) ≡ false → signed_decimal z ≡ decimal (nat_abs z)
 unfolding signed_decimal
 positive (pos n) e = refl
 positive (negsuc n) e = absurd (subst T e tt)

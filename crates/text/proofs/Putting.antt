@@ -1,12 +1,13 @@
 -- Texts put one after the other. Assumes nothing.
-use Prim.Native.Nat.{ℕ, suc, ◌+◌, ◌≤◌, ◌<◌}
+use Prim.Native.Nat.{ℕ, suc, ◌+◌, ◌-◌, ◌≤◌}
 use native.Mathlib.Nat.{add-zero}
-use native.Mathlib.Numerals.{add-one}
 use native.Mathlib.Omega.{arith}
-use mathlib.Core.Path.{◌≡◌, refl, ap, ap₂, ◌∙◌}
+use mathlib.Core.Path.{◌≡◌, refl, sym, ap, ap₂, ◌∙◌}
 use mathlib.Core.List.{List, [], ◌∷◌, ◌++◌}
-use lib.ListN.{length, get_or, set, take, length-append}
-use lib.Seq.{sets, length-sets, take-suc}
+use lib.ListN.{length, set, length-append}
+use lib.Seq.{sets, sets-eq, length-sets, take_all}
+use borrow.Rule.Slice.PartMut.{put_mid}
+use Rattle.std.proofs.lemmas.Slice.{put_mid-paste}
 use Rattle.text.specs.Inner.{Put}
 
 pub sets_append : (xs ys l : List ℕ) (i : ℕ) → sets (sets l i xs) (i + length xs) ys ≡ sets l i (xs ++ ys)
@@ -28,10 +29,13 @@ put_length {a} {b} {x} {at} f = ap length f.bytes ∙ length-sets a at x
 pub stored : (l : List ℕ) (i a : ℕ) → Put l i (a ∷ []) (set l i a) (i + 1)
 stored l i a = record { bytes = refl; ends = refl }
 
-pub copied : (a s b : List ℕ) (at i : ℕ) → i < length s → Put a at (take i s) b (at + i) → Put a at (take (i + 1) s) (set b (at + i) (get_or s i 0)) (at + (i + 1))
-copied a s b at i h f =
-    let e : at + (i + 1) ≡ at + i + 1 = omega arith in
-    rw (e, add-one i, take-suc s i 0 h) (then f (stored b (at + i) (get_or s i 0)))
+pub copied : (a s b : List ℕ) (at : ℕ) → b ≡ s → at + length s ≤ length a → Put a at s (put_mid at (at + length s - at) a b) (at + length s)
+copied a s b at e h = record {
+  bytes =
+      put_mid-paste at (at + length s - at) a b s (length s) e (omega arith) refl
+      ∙ rw (take_all (length s) s (omega arith)) (sym (sets-eq s a at h));
+  ends = refl;
+}
 
 -- what room is left after a text of at most m bytes
 pub next : {a b x : List ℕ} {at p : ℕ} (m k : ℕ) → Put a at x b p → length x ≤ m → at + (m + k) ≤ length a → p + k ≤ length b

@@ -1,10 +1,10 @@
 // Bytes and numbers as text, put into a lent buffer from a place on. Each function answers the place
 // after its text. What a function requires is room for the longest text that it can make.
+// Stays: no plainer. A struct of `out` and `at` borrows the buffer, and each contract then says it twice, as it was lent and as it is
+// given back, where `Put out.old at text out.new result` says it once.
 ghost use Rattle.std.specs.Prelude.{◌+◌, ◌≤◌, ◌<◌, [], ◌∷◌, length};
 ghost use Rattle.text.specs.Inner.{Put};
 ghost use Rattle.text.specs.Text.{decimal, signed_decimal, word_line};
-
-use signed::as_unsigned;
 
 pub fn put_byte(out: &mut [u8], at: usize, b: u8) -> usize
     requires { at < length out.old }
@@ -14,16 +14,14 @@ pub fn put_byte(out: &mut [u8], at: usize, b: u8) -> usize
     at + 1
 }
 
+#[tactic(auto, using(crate::proofs::Putting::copied))]
 pub fn put_bytes(out: &mut [u8], at: usize, s: &[u8]) -> usize
     requires { at + length s.now ≤ length out.old }
     ensures { Put out.old at s.now out.new result }
 {
-    let mut i = 0;
-    while i < s.len() {
-        out[at + i] = s[i];
-        i += 1;
-    }
-    at + i
+    let end = at + s.len();
+    out[at..end].copy_from_slice(s);
+    end
 }
 
 // The digits before the last one first: they are the decimal of n / 10.
@@ -38,17 +36,16 @@ pub fn put_decimal(out: &mut [u8], at: usize, n: u64) -> usize
     put_byte(out, p, b'0' + (n % 10) as u8)
 }
 
-// The bits of -m are those of 2^64 - m.
+#[tactic(auto, using(crate::proofs::Putting::then, crate::proofs::Numbers::negative, crate::proofs::Numbers::positive))]
 pub fn put_signed(out: &mut [u8], at: usize, n: i64) -> usize
     requires { at + 21 ≤ length out.old }
     ensures { Put out.old at (signed_decimal n) out.new result }
 {
-    let bits = as_unsigned(n);
     if n < 0 {
         let p = put_byte(out, at, b'-');
-        return put_decimal(out, p, !bits + 1);
+        return put_decimal(out, p, n.unsigned_abs());
     }
-    put_decimal(out, at, bits)
+    put_decimal(out, at, n.unsigned_abs())
 }
 
 // A line of a word, which ends with its space, and a number.
