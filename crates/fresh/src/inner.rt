@@ -14,10 +14,10 @@ pub fn fresh(
 {
     let none = totals::inner::no_totals();
     SequenceTracker {
-        count: count,
-        capacity: capacity,
-        interval_secs: interval_secs,
-        last_recorded_ts: last_recorded_ts,
+        count,
+        capacity,
+        interval_secs,
+        last_recorded_ts,
         totals: none,
     }
 }

@@ -28,6 +28,5 @@ pub fn with_config(capacity: u32, interval_secs: u64) -> Result<SequenceTracker,
     if limits::inner::bad_settings(capacity, interval_secs) {
         return Err(Refusal::Settings);
     }
-    let table = inner::fresh(capacity, interval_secs, 0, None);
-    Ok(table)
+    Ok(inner::fresh(capacity, interval_secs, 0, None))
 }

@@ -1,65 +1,39 @@
 -- What the list reader leaves in restore's own arrays, and what restore makes of it. Assumes nothing.
-use Prim.Native.Nat.{ℕ, zero, suc, ◌-◌, ◌≤◌, ◌<◌}
+use Prim.Native.Nat.{ℕ, ◌≤◌}
 use mathlib.Core.Path.{◌≡◌, refl, sym, ap, ap₂, ◌∙◌}
-use mathlib.Core.Bool.{Bool, true, false, cond}
+use mathlib.Core.Bool.{false}
 use mathlib.Core.List.{List}
 use native.Mathlib.Omega.{arith}
-use borrow.Author.Tests.{ltb-false, eqb-false}
-use lib.Dec.{leb, ltb, eqb}
-use lib.ListN.{length, get_or, take}
-use lib.Seq.{take_at, take_all}
-use lib.IntN.{ℤ, pos}
-use Rattle.told.specs.Told.{Told, gave, refused, if_good}
-use Rattle.told.specs.Over.{over, filled}
+use borrow.Author.Tests.{ltb-false}
+use lib.Dec.{leb, ltb}
+use lib.ListN.{length, take}
+use lib.Seq.{take_at}
+use lib.IntN.{ℤ}
+use Rattle.told.specs.Told.{Told, gave, refused}
+use Rattle.told.specs.Over.{filled}
 use Rattle.gorilla.specs.Parser.{Read, read}
 use Rattle.gorilla.specs.Parser as parser
 use Rattle.gorilla.specs.Reading.{Pairs, pairs_read}
 use Rattle.gorilla.proofs.Counts.{image_counts}
 use Rattle.order.proofs.Bools.{neither}
 use Rattle.limits.specs.Settings.{bad_settings}
-use Rattle.fresh.specs.Fresh.{default_capacity, fresh_table}
+use Rattle.fresh.specs.Fresh.{default_capacity}
 use Rattle.tracker.specs.declared.SequenceTracker.{SequenceTracker}
-use Rattle.tracker.specs.declared.Second.{Second}
-use Rattle.std.specs.Prelude.{None, Some, Option}
-use Rattle.tracker.proofs.Kept.{kept_at, pairs-kept}
 use Rattle.decoder.specs.Decode.{listed, count_of, decode_rule}
 use Rattle.decoder.proofs.Stored as stored
 use Rattle.decoder.specs.Decode as decode
-use Rattle.settling.specs.Settle.{last_of, settled_of}
+use Rattle.settling.specs.Settle.{settled_of}
 use Rattle.restoring.specs.Restore.{read_table, judged, too_short, restore_at}
 
 -- what was read into arrays xs and ys, of which n places are values now
 pub record Loaded (bytes xs : List ℕ) (ys : List ℤ) (n : ℕ) : Type 0 where
   pub seqs : take n xs ≡ (pairs_read (read_table bytes)).seqs
   pub secs : take n ys ≡ (pairs_read (read_table bytes)).secs
-  pub judge : (interval : ℕ) → settled_of interval xs ys n ≡ judged interval (read_table bytes)
+  pub judge : (interval : ℕ) → settled_of interval (take n xs) (take n ys) (length (take n xs)) ≡ judged interval (read_table bytes)
 
 -- an array that is filled by what is told stays so for what restore tells
 pub into : {A : Type 0} (w w' : Told SequenceTracker) (x v v' old : List A) → x ≡ filled w v old → v ≡ v' → w' ≡ w → x ≡ filled w' v' old
 into {A} w w' x v v' old e f g = e ∙ ap (λ (u : List A). filled w u old) f ∙ ap (λ (u : Told SequenceTracker). filled u v' old) (sym g)
-
-by_zero : (n : ℕ) → eqb n 0 ≡ false → n - 1 < n
-by_zero zero f = absurd (eqb-false 0 0 f refl)
-by_zero (suc n) f = omega arith
-
-same-last : (xs ys : List ℤ) (n : ℕ) → take n xs ≡ take n ys → last_of xs n ≡ last_of ys n
-same-last xs ys n e = go (eqb n 0) refl
-  where
-    go : (t : Bool) → eqb n 0 ≡ t → cond t None (Some (record { 0 = get_or xs (n - 1) (pos 0) })) ≡ cond t None (Some (record { 0 = get_or ys (n - 1) (pos 0) }))
-    go true f = refl
-    go false f =
-        let l : n - 1 < n = by_zero n f in
-        ap (λ (z : ℤ). Some (record { 0 = z })) (kept_at n xs ys (n - 1) (pos 0) e l)
-
--- pairs p over whatever the arrays held
-module _ (old-seqs : List ℕ) (old-secs : List ℤ) (p : Pairs) (n : ℕ) (a : length p.seqs ≡ n) (b : length p.secs ≡ n) where
-  settled_is : (interval : ℕ) → settled_of interval (over p.seqs old-seqs) (over p.secs old-secs) n ≡ settled_of interval p.seqs p.secs (length p.seqs)
-  settled_is interval =
-      let s : take n (over p.seqs old-seqs) ≡ take n p.seqs = take_at p.seqs _ n a ∙ sym (take_all n p.seqs (omega arith)) in
-      let t : take n (over p.secs old-secs) ≡ take n p.secs = take_at p.secs _ n b ∙ sym (take_all n p.secs (omega arith)) in
-      ap₂ (λ (r : Told (Unit {0})) (l : Option Second). if_good r (gave (fresh_table 8192 interval n l)))
-      (pairs-kept n (over p.seqs old-seqs) p.seqs (over p.secs old-secs) p.secs s t) (same-last (over p.secs old-secs) p.secs n t)
-      ∙ ap (settled_of interval p.seqs p.secs) (sym a)
 
 module _ (bytes S : List ℕ) (T : List ℤ) (hs : length S ≡ 8192) (ht : length T ≡ 8192) where
   listed_is : listed bytes S T ≡ read_table bytes
@@ -76,12 +50,12 @@ module _ (bytes S : List ℕ) (T : List ℤ) (hs : length S ≡ 8192) (ht : leng
           let c : ◌≡◌ {A = Told ℕ} (gave n) (gave (length p.secs)) = h ∙ ap count_of e in
           let b : length p.secs ≡ n = sym cc in
           let a : length p.seqs ≡ n = counts.0 ∙ b in
-          let s : S' ≡ over p.seqs S = f ∙ ap (stored.seqs_over S) e in
-          let t : T' ≡ over p.secs T = k ∙ ap (stored.secs_over T) e in
+          let s : take n S' ≡ p.seqs = ap (take n) (f ∙ ap (stored.seqs_over S) e) ∙ take_at p.seqs _ n a in
+          let t : take n T' ≡ p.secs = ap (take n) (k ∙ ap (stored.secs_over T) e) ∙ take_at p.secs _ n b in
           record {
-            seqs = ap (take n) s ∙ take_at p.seqs _ n a ∙ ap (λ (r : Read Pairs). (pairs_read r).seqs) (sym e);
-            secs = ap (take n) t ∙ take_at p.secs _ n b ∙ ap (λ (r : Read Pairs). (pairs_read r).secs) (sym e);
-            judge = λ interval. ap₂ (λ (x : List ℕ) (y : List ℤ). settled_of interval x y n) s t ∙ settled_is S T p n a b interval ∙ ap (judged interval) (sym e);
+            seqs = s ∙ ap (λ (r : Read Pairs). (pairs_read r).seqs) (sym e);
+            secs = t ∙ ap (λ (r : Read Pairs). (pairs_read r).secs) (sym e);
+            judge = λ interval. ap₂ (λ (x : List ℕ) (y : List ℤ). settled_of interval x y (length x)) s t ∙ ap (judged interval) (sym e);
           }
       go (parser.refused l) e h f k =
           let c : ◌≡◌ {A = Told ℕ} (gave n) (refused l) = h ∙ ap count_of e in

@@ -5,18 +5,19 @@ use mathlib.Core.Path.{◌≡◌, sym, ap, ◌∙◌}
 use mathlib.Core.List.{List}
 use native.Mathlib.Omega.{arith}
 use lib.IntN.{ℤ}
+use Rattle.std.specs.Prelude.{Result}
 use Rattle.told.specs.Over.{filled}
 use Rattle.gorilla.specs.Reading.{pairs_read}
-use Rattle.told.proofs.Unique.{given_not_refused, same-list, same_gift}
-use Rattle.tracker.specs.Refusal.{told}
-use Rattle.tracker.proofs.Unique.{number, table-number, apart, table-told}
+use Rattle.told.proofs.Unique.{one_result}
+use Rattle.tracker.proofs.Unique.{number, table-number, table-told}
 use Rattle.code_reader.specs.Refusal as reader
 use Rattle.code_reader.specs.declared.Refusal as dec
 use Rattle.code_reader.specs.declared.Refusal.TheVariants as dv
 use Rattle.code_reader.proofs.Unique.{one-refusal}
-use Rattle.restoring.specs.Restore.{told_restore, read_table, RestoresAt}
-use Rattle.restoring.specs.declared.Restored.{Restored}
-use Rattle.restoring.specs.declared.Restored.TheVariants as rv
+use Rattle.tracker.specs.declared.SequenceTracker.{SequenceTracker}
+use Rattle.restoring.specs.Restore.{told_refusal, told_restore, read_table, RestoresAt}
+use Rattle.restoring.specs.declared.Refusal.{Refusal}
+use Rattle.restoring.specs.declared.Refusal.TheVariants.{Table, Decoder}
 
 reader_number : (r : dec.Refusal) → number (reader.told r) ≤ 10
 reader_number dv.Empty = omega arith
@@ -30,22 +31,18 @@ reader_number (dv.PrefixCut a i p) = omega arith
 reader_number (dv.DiffCut a i w p) = omega arith
 reader_number (dv.CountDiffers a) = omega arith
 
-restore_told : (a b : Restored) → told_restore a ≡ told_restore b → a ≡ b
-restore_told (rv.Table t) (rv.Table u) h = ap rv.Table (same_gift h)
-restore_told (rv.Table t) (rv.Refused r) h = given_not_refused h
-restore_told (rv.Table t) (rv.NotDecoded r) h = given_not_refused h
-restore_told (rv.Refused r) (rv.Table u) h = given_not_refused (sym h)
-restore_told (rv.Refused r) (rv.Refused q) h = ap rv.Refused (table-told r q (same-list h))
-restore_told (rv.Refused r) (rv.NotDecoded q) h = apart (reader.told q) (told r) (λ e. omega (arith, e, (table-number r).0, reader_number q)) (sym h)
-restore_told (rv.NotDecoded r) (rv.Table u) h = given_not_refused (sym h)
-restore_told (rv.NotDecoded r) (rv.Refused q) h = apart (reader.told r) (told q) (λ e. omega (arith, e, (table-number q).0, reader_number r)) h
-restore_told (rv.NotDecoded r) (rv.NotDecoded q) h = ap rv.NotDecoded (one-refusal r q (same-list h))
+-- refusals of which the same is told are the same
+refusal_told : (a b : Refusal) → told_refusal a ≡ told_refusal b → a ≡ b
+refusal_told (Table r) (Table q) h = ap Table (table-told r q h)
+refusal_told (Table r) (Decoder q) h = absurd (omega (arith, ap number h, (table-number r).0, reader_number q))
+refusal_told (Decoder r) (Table q) h = absurd (omega (arith, ap number h, (table-number q).0, reader_number r))
+refusal_told (Decoder r) (Decoder q) h = ap Decoder (one-refusal r q h)
 
-pub one_restore : (interval : ℕ) (bytes seqs : List ℕ) (secs : List ℤ) (a b : Restored) (x x' : List ℕ) (y y' : List ℤ)
+pub one_restore : (interval : ℕ) (bytes seqs : List ℕ) (secs : List ℤ) (a b : Result SequenceTracker Refusal) (x x' : List ℕ) (y y' : List ℤ)
     → RestoresAt interval bytes seqs secs a x y → RestoresAt interval bytes seqs secs b x' y' → (a ≡ b) × (x ≡ x') × (y ≡ y')
 one_restore interval bytes seqs secs a b x x' y y' f g =
-    let e : a ≡ b = restore_told a b (f.0 ∙ sym g.0) in (
+    let e : a ≡ b = one_result told_refusal refusal_told a b (f.0 ∙ sym g.0) in (
       e,
-      f.1 ∙ ap (λ (r : Restored). filled (told_restore r) (pairs_read (read_table bytes)).seqs seqs) e ∙ sym g.1,
-      f.2 ∙ ap (λ (r : Restored). filled (told_restore r) (pairs_read (read_table bytes)).secs secs) e ∙ sym g.2,
+      f.1 ∙ ap (λ (r : Result SequenceTracker Refusal). filled (told_restore r) (pairs_read (read_table bytes)).seqs seqs) e ∙ sym g.1,
+      f.2 ∙ ap (λ (r : Result SequenceTracker Refusal). filled (told_restore r) (pairs_read (read_table bytes)).secs secs) e ∙ sym g.2,
     )

@@ -1,6 +1,6 @@
 -- Restore: what it tells, and what the lent arrays hold afterwards.
-use Rattle.std.specs.Prelude.{ℕ, ◌≡◌, Bool, cond, ◌||◌, List, [], ◌∷◌, leb, ltb, length, ℤ}
-use Rattle.told.specs.Told.{Told, gave, refused}
+use Rattle.std.specs.Prelude.{ℕ, ◌≡◌, Bool, cond, ◌||◌, List, [], ◌∷◌, leb, ltb, length, ℤ, Result}
+use Rattle.told.specs.Told.{Told, refused, told_by}
 use Rattle.told.specs.Over.{filled}
 use Rattle.gorilla.specs.Parser.{Read, read}
 use Rattle.gorilla.specs.Parser as parser
@@ -11,14 +11,17 @@ use Rattle.tracker.specs.declared.SequenceTracker.{SequenceTracker}
 use Rattle.code_reader.specs.Refusal as reader
 use Rattle.fresh.specs.Fresh.{default_capacity, default_interval_secs}
 use Rattle.settling.specs.Settle.{settled_of}
-use Rattle.restoring.specs.declared.Restored.{Restored}
-use Rattle.restoring.specs.declared.Restored.TheVariants.{Table, Refused, NotDecoded}
+use Rattle.restoring.specs.declared.Refusal.{Refusal}
+use Rattle.restoring.specs.declared.Refusal.TheVariants.{Table, Decoder}
+
+-- the number of a refusal, the table's or the list reader's
+abbrev pub told_refusal : Refusal → List ℕ
+told_refusal (Table r) = told r
+told_refusal (Decoder r) = reader.told r
 
 -- the table's state, or the refusal's number
-abbrev pub told_restore : Restored → Told SequenceTracker
-told_restore (Table t) = gave t
-told_restore (Refused r) = refused (told r)
-told_restore (NotDecoded r) = refused (reader.told r)
+abbrev pub told_restore : Result SequenceTracker Refusal → Told SequenceTracker
+told_restore = told_by told_refusal
 
 -- the list reader with room for 8,192 pairs
 abbrev pub read_table : List ℕ → Read Pairs
@@ -46,12 +49,12 @@ abbrev pub restore_of : List ℕ → List ℕ → List ℤ → Told SequenceTrac
 restore_of = restore_at default_interval_secs
 
 -- `restore_with_interval`: its answer, and both arrays afterwards: the pairs that were read, and past them what stood there; refused, as before
-abbrev pub RestoresAt : ℕ → List ℕ → List ℕ → List ℤ → Restored → List ℕ → List ℤ → Type 0
+abbrev pub RestoresAt : ℕ → List ℕ → List ℕ → List ℤ → Result SequenceTracker Refusal → List ℕ → List ℤ → Type 0
 RestoresAt interval bytes seqs secs r seqs' secs' =
     (told_restore r ≡ restore_at interval bytes seqs secs)
     × (seqs' ≡ filled (told_restore r) (pairs_read (read_table bytes)).seqs seqs)
     × (secs' ≡ filled (told_restore r) (pairs_read (read_table bytes)).secs secs)
 
 -- `restore`
-abbrev pub Restores : List ℕ → List ℕ → List ℤ → Restored → List ℕ → List ℤ → Type 0
+abbrev pub Restores : List ℕ → List ℕ → List ℤ → Result SequenceTracker Refusal → List ℕ → List ℤ → Type 0
 Restores = RestoresAt default_interval_secs

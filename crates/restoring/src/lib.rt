@@ -2,28 +2,33 @@
 #![tactic(auto)]
 
 ghost use Rattle.std.specs.Prelude.{◌≡◌};
-ghost use Rattle.tracker.specs.Refusal.{told_made};
-ghost use Rattle.restoring.specs.Restore.{told_restore, too_short, Restores, RestoresAt};
+ghost use Rattle.restoring.specs.Restore.{too_short, Restores, RestoresAt};
+ghost use Rattle.restoring.specs.declared.Refusal.TheVariants.{Table, Decoder};
 
 use decoder::Decoded;
-use tracker::{Refusal, SequenceTracker};
+use settling::inner::settle;
+use tracker::SequenceTracker;
 
-// What a restore answers.
+// Why a restore refuses: the table's refusal, of the interval, the lent arrays or the pairs; or the list reader's.
 #[derive(Clone, Copy)]
-pub enum Restored {
-    Table(SequenceTracker),
-    // the interval, the lent arrays or the pairs are refused
-    Refused(Refusal),
-    // the list reader refuses
-    NotDecoded(decoder::Refusal),
+pub enum Refusal {
+    Table(tracker::Refusal),
+    Decoder(decoder::Refusal),
 }
 
-fn of_made(made: Result<SequenceTracker, Refusal>) -> Restored
-    ensures { told_restore result ≡ told_made made }
-{
-    match made {
-        Ok(table) => Restored::Table(table),
-        Err(why) => Restored::Refused(why),
+impl From<tracker::Refusal> for Refusal {
+    ghost from_gives = { λ why r. r ≡ Table why };
+
+    fn from(why: tracker::Refusal) -> Refusal {
+        Refusal::Table(why)
+    }
+}
+
+impl From<decoder::Refusal> for Refusal {
+    ghost from_gives = { λ why r. r ≡ Decoder why };
+
+    fn from(why: decoder::Refusal) -> Refusal {
+        Refusal::Decoder(why)
     }
 }
 
@@ -38,7 +43,7 @@ fn too_short(seqs: usize, secs: usize) -> bool
 }
 
 // At the default interval, where the Rust's `from_bytes` gives a table 60.
-pub fn restore(bytes: &[u8], seqs: &mut [u64], secs: &mut [i64]) -> Restored
+pub fn restore(bytes: &[u8], seqs: &mut [u64], secs: &mut [i64]) -> Result<SequenceTracker, Refusal>
     ensures { Restores bytes.now seqs.old secs.old result seqs.new secs.new }
 {
     restore_with_interval(bytes, seqs, secs, fresh::DEFAULT_INTERVAL_SECS)
@@ -51,23 +56,23 @@ pub fn restore_with_interval(
     seqs: &mut [u64],
     secs: &mut [i64],
     interval_secs: u64,
-) -> Restored
+) -> Result<SequenceTracker, Refusal>
     ensures { RestoresAt interval_secs bytes.now seqs.old secs.old result seqs.new secs.new }
 {
     let bad_interval = limits::inner::bad_settings(fresh::DEFAULT_CAPACITY, interval_secs);
     let short = too_short(seqs.len(), secs.len());
     if bad_interval {
-        return Restored::Refused(Refusal::Settings);
+        return Err(Refusal::Table(tracker::Refusal::Settings));
     }
     if short {
-        return Restored::Refused(Refusal::Disagrees);
+        return Err(Refusal::Table(tracker::Refusal::Disagrees));
     }
     let mut own_seqs = [0u64; 8192];
     let mut own_secs = [0i64; 8192];
-    match decoder::decode(bytes, &mut own_seqs, &mut own_secs) {
-        Decoded::Count(n) => {
-            of_made(settling::inner::settle(seqs, secs, &own_seqs, &own_secs, n, interval_secs))
-        }
-        Decoded::Refused(why) => Restored::NotDecoded(why),
-    }
+    let n = match decoder::decode(bytes, &mut own_seqs, &mut own_secs) {
+        Decoded::Count(n) => n,
+        Decoded::Refused(why) => return Err(Refusal::Decoder(why)),
+    };
+    let table = settle(seqs, secs, &own_seqs[..n], &own_secs[..n], interval_secs)?;
+    Ok(table)
 }

@@ -4,7 +4,6 @@ ghost use Rattle.limits.specs.Domain.{outside};
 ghost use Rattle.tracker.specs.Inner.{last_outside};
 ghost use Rattle.skipping.specs.Reasons.{skips, goes_back};
 
-use signed::as_signed;
 use tracker::Second;
 
 // The one test that decides whether an offer is skipped. In the domain the difference cannot overflow.
@@ -14,11 +13,7 @@ pub fn skips(last: Option<Second>, interval_secs: u64, s: i64) -> bool
 {
     match last {
         None => false,
-        Some(before) => {
-            let x = before.0;
-            let passed = s - x;
-            passed < as_signed(interval_secs)
-        }
+        Some(Second(before)) => s - before < interval_secs.cast_signed(),
     }
 }
 
@@ -28,9 +23,6 @@ pub fn went_back(last: Option<Second>, s: i64) -> bool
 {
     match last {
         None => false,
-        Some(before) => {
-            let x = before.0;
-            s < x
-        }
+        Some(Second(before)) => s < before,
     }
 }
