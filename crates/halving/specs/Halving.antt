@@ -1,5 +1,5 @@
 -- How much halving can hide, at every even capacity from 2 up.
-use Rattle.std.specs.Prelude.{ℕ, ◌+◌, ◌≤◌, ◌<◌, ◌≡◌, true, false, cond, List, [], ◌∷◌, ◌++◌, ltb, ℤ, pos, length}
+use Rattle.std.specs.Prelude.{ℕ, ◌+◌, ◌≤◌, ◌<◌, ◌≡◌, true, false, cond, List, [], ◌∷◌, ◌++◌, ltb, ℤ, pos, length, Ok}
 use Rattle.std.specs.Int.Signed.{lt_z}
 use Rattle.told.specs.Told.{Told, gave}
 use Rattle.gorilla.specs.Reading.{Pairs, pairs_read}
@@ -14,7 +14,6 @@ use Rattle.lookup.specs.declared.FindOption.{FindOption}
 use Rattle.offers.specs.Whole.{Table, whole, check_in}
 use Rattle.offer_log.specs.Pairs.{records_of}
 use Rattle.restoring.specs.Restore.{read_table, RestoresAt}
-use Rattle.restoring.specs.declared.Restored.TheVariants as restored
 use Rattle.halving.specs.History.{kept_pairs, after, records, halves, now, recorded_of, halvings_of, history_of}
 use Rattle.halving.specs.Coarse.{halvings_at, Halved, InOrder, Since}
 use Rattle.halving.specs.Asked.{Answers, AnswersRecorded}
@@ -75,5 +74,5 @@ pub record HalvingHides : Type 0 where
   pub from_empty : (capacity interval : ℕ) (t : SequenceTracker) (seqs : List ℕ) (secs : List ℤ) → config_of capacity interval ≡ gave t → EvenFrom2 capacity
       → capacity ≤ length seqs → capacity ≤ length secs → (rs : List TrackedSeq) → FromEmpty capacity (whole t seqs secs) rs
   -- from each table that a restore leaves, of any bytes that it accepts
-  pub from_restored : (interval : ℕ) (bytes seqs seqs' : List ℕ) (secs secs' : List ℤ) (t : SequenceTracker) → RestoresAt interval bytes seqs secs (restored.Table t) seqs' secs'
+  pub from_restored : (interval : ℕ) (bytes seqs seqs' : List ℕ) (secs secs' : List ℤ) (t : SequenceTracker) → RestoresAt interval bytes seqs secs (Ok t) seqs' secs'
       → (rs : List TrackedSeq) → FromRestored (pairs_read (read_table bytes)) (whole t seqs' secs') rs

@@ -1,2 +1,1 @@
 pub mod Save
-pub mod Inner

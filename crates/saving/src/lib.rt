@@ -4,66 +4,64 @@
 // the tables of which other pairs would be read back.
 #![tactic(auto)]
 
-ghost use Rattle.std.specs.Prelude.{◌≤◌, length};
+ghost use Rattle.std.specs.Prelude.{◌≡◌};
 ghost use Rattle.saving.specs.Save.{save_of, save_strict_of, Saves};
-ghost use Rattle.saving.specs.Inner.{EncodesFirst};
+ghost use Rattle.saving.specs.declared.Refusal.TheVariants.{Table, Encoder};
 
-use encoder::Encoded;
-use tracker::{Refusal, SequenceTracker, check};
+use encoder::{encode, encode_strict};
+use tracker::{SequenceTracker, check};
 
-// What a save answers.
+// Why a save refuses: the table's refusal, or the encoder's.
 #[derive(Clone, Copy)]
-pub enum Saved {
-    // the bytes that were written
-    Written(usize),
-    // the table is refused
-    Refused(Refusal),
-    // the encoder refuses
-    NotEncoded(encoder::Refusal),
+pub enum Refusal {
+    Table(tracker::Refusal),
+    Encoder(encoder::Refusal),
 }
 
-// The image of the first n pairs.
-fn encode_kept(seqs: &[u64], secs: &[i64], n: usize, strict: bool, out: &mut [u8]) -> Saved
-    requires { (n ≤ length seqs.now) × (n ≤ length secs.now) }
-    ensures { EncodesFirst n strict seqs.now secs.now out.old result out.new }
-{
-    if strict {
-        match encoder::encode_strict(&seqs[..n], &secs[..n], out) {
-            Encoded::Written(bytes) => Saved::Written(bytes),
-            Encoded::Refused(why) => Saved::NotEncoded(why),
-        }
-    } else {
-        match encoder::encode(&seqs[..n], &secs[..n], out) {
-            Encoded::Written(bytes) => Saved::Written(bytes),
-            Encoded::Refused(why) => Saved::NotEncoded(why),
-        }
+impl From<tracker::Refusal> for Refusal {
+    ghost from_gives = { λ why r. r ≡ Table why };
+
+    fn from(why: tracker::Refusal) -> Refusal {
+        Refusal::Table(why)
     }
 }
 
-// The bytes that the Rust writes.
-pub fn save(table: SequenceTracker, seqs: &[u64], secs: &[i64], out: &mut [u8]) -> Saved
+impl From<encoder::Refusal> for Refusal {
+    ghost from_gives = { λ why r. r ≡ Encoder why };
+
+    fn from(why: encoder::Refusal) -> Refusal {
+        Refusal::Encoder(why)
+    }
+}
+
+// The bytes that the Rust writes. Gives how many they are.
+#[tactic(auto, using(crate::proofs::Passing::passes))]
+pub fn save(
+    table: SequenceTracker,
+    seqs: &[u64],
+    secs: &[i64],
+    out: &mut [u8],
+) -> Result<usize, Refusal>
     ensures { Saves save_of table seqs.now secs.now out.old result out.new }
 {
-    let checked = check(table, seqs, secs);
-    match checked {
-        Ok(()) => {
-            let n = table.count;
-            encode_kept(seqs, secs, n, false, out)
-        }
-        Err(why) => Saved::Refused(why),
-    }
+    check(table, seqs, secs)?;
+    let n = table.count;
+    let bytes = encode(&seqs[..n], &secs[..n], out)?;
+    Ok(bytes)
 }
 
 // The same bytes, or 20 where other pairs would be read back.
-pub fn save_strict(table: SequenceTracker, seqs: &[u64], secs: &[i64], out: &mut [u8]) -> Saved
+#[tactic(auto, using(crate::proofs::Passing::passes))]
+pub fn save_strict(
+    table: SequenceTracker,
+    seqs: &[u64],
+    secs: &[i64],
+    out: &mut [u8],
+) -> Result<usize, Refusal>
     ensures { Saves save_strict_of table seqs.now secs.now out.old result out.new }
 {
-    let checked = check(table, seqs, secs);
-    match checked {
-        Ok(()) => {
-            let n = table.count;
-            encode_kept(seqs, secs, n, true, out)
-        }
-        Err(why) => Saved::Refused(why),
-    }
+    check(table, seqs, secs)?;
+    let n = table.count;
+    let bytes = encode_strict(&seqs[..n], &secs[..n], out)?;
+    Ok(bytes)
 }

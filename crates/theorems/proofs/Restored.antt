@@ -24,7 +24,7 @@ use Rattle.fresh.specs.Fresh.{fresh_table, default_capacity}
 use Rattle.tracker.specs.Table.{pairs_of}
 use Rattle.tracker.specs.Inner.{last_misplaced, last_outside, last_below}
 use Rattle.tracker.specs.declared.SequenceTracker.{SequenceTracker}
-use Rattle.std.specs.Prelude.{None, Some}
+use Rattle.std.specs.Prelude.{None, Some, Ok}
 use Rattle.tracker.proofs.Good.{Sorted, sorted, fine_again}
 use Rattle.tracker.proofs.Kept.{kept_at, pairs-kept}
 use Rattle.offers.proofs.Rise.{over-length}
@@ -32,7 +32,6 @@ use Rattle.offers.specs.Whole.{Table, whole}
 use Rattle.settling.specs.Settle.{last_of}
 use Rattle.restoring.specs.Restore.{read_table, judged, too_short, read_into, RestoresAt}
 use Rattle.restoring.proofs.Loading.{places}
-use Rattle.restoring.specs.declared.Restored.TheVariants as restored
 use Rattle.theorems.specs.Restored.{RestoredGood}
 use Rattle.theorems.specs.Alike.{kept_in}
 use Rattle.theorems.specs.Run.{Lent}
@@ -84,7 +83,7 @@ settled : (x : Told (Unit {0})) (s t : SequenceTracker) → if_good x (gave s) �
 settled (gave tt) s t h = (refl, same_gift h)
 settled (refused l) s t h = absurd (not_given l t h)
 
-module _ (interval : ℕ) (bytes seqs seqs' : List ℕ) (secs secs' : List ℤ) (t : SequenceTracker) (h : RestoresAt interval bytes seqs secs (restored.Table t) seqs' secs') where
+module _ (interval : ℕ) (bytes seqs seqs' : List ℕ) (secs secs' : List ℤ) (t : SequenceTracker) (h : RestoresAt interval bytes seqs secs (Ok t) seqs' secs') where
   -- what holds of the pairs that are read, and of the table that is made of them, holds of the table that it leaves
   by_reading : (C : Pairs → Table → Type 0)
       → (bad_settings default_capacity interval ≡ false → Lent seqs secs → (p : Pairs) (left : List ℕ) → read_table bytes ≡ read p left → pairs_of p.seqs p.secs (length p.seqs) ≡ gave tt

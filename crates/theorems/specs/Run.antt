@@ -1,6 +1,6 @@
 -- The third demand: fewer than 2^64 offers to a table of capacity 8,192 and any valid interval, new or restored from any bytes, with strict saves and restores at that interval between them, go as the offers
 -- alone would, but for the totals. At the default settings `restore` is such a restore.
-use Rattle.std.specs.Prelude.{ℕ, ◌+◌, ◌≤◌, ◌<◌, ◌^◌, ◌≡◌, false, ◌↔◌, List, [], ◌∷◌, ◌++◌, map, length, take, get_or, ℤ}
+use Rattle.std.specs.Prelude.{ℕ, ◌+◌, ◌≤◌, ◌<◌, ◌^◌, ◌≡◌, false, ◌↔◌, List, [], ◌∷◌, ◌++◌, map, length, take, get_or, ℤ, Ok}
 use Rattle.told.specs.Told.{Told, gave, refused}
 use Rattle.told.specs.Over.{over, filled}
 use Rattle.bit_lists.specs.BitList.{bits_of}
@@ -18,7 +18,6 @@ use Rattle.offers.specs.Rest.{offer_rest}
 use Rattle.decoder.specs.Decode.{listed}
 use Rattle.restoring.specs.Restore.{read_table, restore_of, restore_at, Restores, RestoresAt}
 use Rattle.restoring.specs.Interval.{with_interval}
-use Rattle.restoring.specs.declared.Restored.TheVariants as restored
 use Rattle.theorems.specs.Alike.{kept_in, strict_to, save_to, image_for, KeptAlike, AnswerAlike}
 
 -- as `new` makes it, in two arrays that hold what they hold
@@ -154,13 +153,13 @@ GoesOn interval w = (es : List Event) (m : ℕ) → Proper interval es → lengt
 abbrev pub Demand : Type 0
 Demand = (interval : ℕ)
     → ((seqs : List ℕ) (secs : List ℤ) (t : SequenceTracker) → config_of default_capacity interval ≡ gave t → Lent seqs secs → GoesOn interval (whole t seqs secs))
-    × ((bytes seqs seqs' : List ℕ) (secs secs' : List ℤ) (t : SequenceTracker) → RestoresAt interval bytes seqs secs (restored.Table t) seqs' secs' → GoesOn interval (whole t seqs' secs'))
+    × ((bytes seqs seqs' : List ℕ) (secs secs' : List ℤ) (t : SequenceTracker) → RestoresAt interval bytes seqs secs (Ok t) seqs' secs' → GoesOn interval (whole t seqs' secs'))
 
 -- at the default settings, by themselves: from a new table, and from each table that `restore` leaves; the restores of the run may be `restore`, which is at the default interval
 abbrev pub DemandByDefault : Type 0
 DemandByDefault =
     ((seqs : List ℕ) (secs : List ℤ) → Lent seqs secs → GoesOn default_interval_secs (new seqs secs))
-    × ((bytes seqs seqs' : List ℕ) (secs secs' : List ℤ) (t : SequenceTracker) → Restores bytes seqs secs (restored.Table t) seqs' secs' → GoesOn default_interval_secs (whole t seqs' secs'))
+    × ((bytes seqs seqs' : List ℕ) (secs secs' : List ℤ) (t : SequenceTracker) → Restores bytes seqs secs (Ok t) seqs' secs' → GoesOn default_interval_secs (whole t seqs' secs'))
 
 -- the restores have to be at the table's own interval: with restores at another valid one no table that `with_config` makes at capacity 8,192 goes on so, as its state comes back with the other interval
 abbrev pub OwnIntervalNeeded : Type 0

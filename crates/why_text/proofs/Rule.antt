@@ -5,17 +5,19 @@ use mathlib.Core.List.{List}
 use lib.IntN.{ℤ}
 use lib.ListN.{length, take, drop}
 use borrow.Author.Tests.{lt-ltb, le-ltb}
+use Rattle.std.specs.Prelude.{Result}
 use Rattle.report.specs.Lines.{refused_text}
 use Rattle.gorilla.specs.Parser.{refused}
 use Rattle.question_lines.specs.Grammar.{not_the_form, question}
 use Rattle.question_lines.specs.Line.{ReadTo}
 use Rattle.question_lines.specs.declared.Question.{Question}
 use Rattle.restoring.specs.Restore.{told_restore, Restores}
-use Rattle.restoring.specs.declared.Restored.{Restored}
+use Rattle.restoring.specs.declared.Refusal.{Refusal}
+use Rattle.tracker.specs.declared.SequenceTracker.{SequenceTracker}
 use Rattle.why_text.specs.Text.{restored_text, own_seqs, own_secs, image_text, why_text}
 
 -- what a restore answered and left makes the text
-pub restored_text_lem : (q : Question) (image s₀ seqs : List ℕ) (t₀ secs : List ℤ) (r : Restored) → s₀ ≡ own_seqs → t₀ ≡ own_secs → Restores image s₀ t₀ r seqs secs
+pub restored_text_lem : (q : Question) (image s₀ seqs : List ℕ) (t₀ secs : List ℤ) (r : Result SequenceTracker Refusal) → s₀ ≡ own_seqs → t₀ ≡ own_secs → Restores image s₀ t₀ r seqs secs
     → restored_text q (told_restore r) seqs secs ≡ image_text q image
 unfolding image_text
 restored_text_lem q image s₀ seqs t₀ secs r e f h = rw (h.1, h.2, h.0, e, f)

@@ -14,7 +14,6 @@ use lines::{put_why_seq, put_why_ts};
 use number::table_number;
 use question_lines::Question;
 use report::inner::{number, put_refused};
-use restoring::Restored;
 use tracker::SequenceTracker;
 
 // The most bytes that are read as a question's line and an image.
@@ -48,7 +47,7 @@ fn put_asked(
 fn put_restored(
     out: &mut [u8],
     q: Question,
-    restored: Restored,
+    restored: Result<SequenceTracker, restoring::Refusal>,
     seqs: &[u64],
     secs: &[i64],
 ) -> usize
@@ -56,9 +55,9 @@ fn put_restored(
     ensures { Put out.old 0 (restored_text q (told_restore restored) seqs.now secs.now) out.new result }
 {
     match restored {
-        Restored::Table(table) => put_asked(out, q, table, seqs, secs),
-        Restored::Refused(why) => put_refused(out, table_number(why)),
-        Restored::NotDecoded(why) => put_refused(out, number(why)),
+        Ok(table) => put_asked(out, q, table, seqs, secs),
+        Err(restoring::Refusal::Table(why)) => put_refused(out, table_number(why)),
+        Err(restoring::Refusal::Decoder(why)) => put_refused(out, number(why)),
     }
 }
 
