@@ -5,7 +5,7 @@ ghost use Rattle.std.specs.Prelude.{◌≡◌};
 ghost use Rattle.restoring.specs.Restore.{too_short, Restores, RestoresAt};
 ghost use Rattle.restoring.specs.declared.Refusal.TheVariants.{Table, Decoder};
 
-use decoder::Decoded;
+use decoder::decode;
 use settling::inner::settle;
 use tracker::SequenceTracker;
 
@@ -13,7 +13,7 @@ use tracker::SequenceTracker;
 #[derive(Clone, Copy)]
 pub enum Refusal {
     Table(tracker::Refusal),
-    Decoder(decoder::Refusal),
+    Decoder(code_reader::Refusal),
 }
 
 impl From<tracker::Refusal> for Refusal {
@@ -24,10 +24,10 @@ impl From<tracker::Refusal> for Refusal {
     }
 }
 
-impl From<decoder::Refusal> for Refusal {
+impl From<code_reader::Refusal> for Refusal {
     ghost from_gives = { λ why r. r ≡ Decoder why };
 
-    fn from(why: decoder::Refusal) -> Refusal {
+    fn from(why: code_reader::Refusal) -> Refusal {
         Refusal::Decoder(why)
     }
 }
@@ -69,10 +69,7 @@ pub fn restore_with_interval(
     }
     let mut own_seqs = [0u64; 8192];
     let mut own_secs = [0i64; 8192];
-    let n = match decoder::decode(bytes, &mut own_seqs, &mut own_secs) {
-        Decoded::Count(n) => n,
-        Decoded::Refused(why) => return Err(Refusal::Decoder(why)),
-    };
+    let n = decode(bytes, &mut own_seqs, &mut own_secs)?;
     let table = settle(seqs, secs, &own_seqs[..n], &own_secs[..n], interval_secs)?;
     Ok(table)
 }
