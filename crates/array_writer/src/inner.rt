@@ -1,2 +1,2 @@
 // What our own crates call.
-pub use crate::array::{write_secs, write_seqs};
+pub use crate::array::write_array;

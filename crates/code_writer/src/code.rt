@@ -57,8 +57,5 @@ pub fn code_of(dod: i64) -> Held
 pub fn takes_zero(width: u8, dod: i64) -> bool
     ensures { result ≡ true → (width < 64) × (dod ≡ pos 0) }
 {
-    if dod == 0 {
-        return width < 64;
-    }
-    false
+    dod == 0 && width < 64
 }

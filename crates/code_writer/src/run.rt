@@ -1,53 +1,29 @@
 // Runs of zero codes: a value that is as far above the one before it as that one was has a code of one zero bit. That
 // several values are so is told by sums alone, which cost far less than their codes one by one.
-ghost use Rattle.std.specs.Prelude.{◌≡◌, true, map, ◌≤◌, length};
-ghost use Rattle.signed.specs.Signed.{signed};
-ghost use Rattle.code_writer.specs.Inner.{Even};
+ghost use Rattle.std.specs.Prelude.{map, IfSome};
+ghost use Rattle.code_writer.specs.Inner.{Run};
 
-use gorilla::Track;
+use gorilla::{Stored, Track};
 
 // The values of a run.
 pub const RUN: usize = 7;
 
-// Whether the sequences from index `i` on begin with a run, where `t` is the value before them with its delta. Not so need
+// Where the run leads that values begin with, and the values after it; `t` is the value before them with its delta. None need
 // not mean that the next code is another.
-pub fn even_seqs(seqs: &[u64], i: usize, t: Track) -> bool
-    requires { i ≤ length seqs.now }
-    ensures { result ≡ true → Even (map signed seqs.now) i t }
+pub fn take_run<T: Stored>(values: &[T], t: Track) -> Option<(Track, &[T])>
+    ensures { IfSome result (λ r. Run (map T.as_z values.now) t (map T.as_z r.1.now) r.0) }
 {
-    if seqs.len() - i < RUN {
-        return false;
-    }
-    let delta = t.delta;
+    let (run, rest) = values.split_at_checked(RUN)?;
     let mut v = t.prev;
-    let mut n: usize = 0;
-    while n < RUN {
-        v = signed::wrapping_add(v, delta);
-        if signed::as_signed(seqs[i + n]) != v {
-            return false;
+    for value in run {
+        v = signed::wrapping_add(v, t.delta);
+        if value.to_signed() != v {
+            return None;
         }
-        n += 1;
     }
-    true
-}
-
-// Of the seconds, likewise.
-pub fn even_secs(secs: &[i64], i: usize, t: Track) -> bool
-    requires { i ≤ length secs.now }
-    ensures { result ≡ true → Even secs.now i t }
-{
-    if secs.len() - i < RUN {
-        return false;
-    }
-    let delta = t.delta;
-    let mut v = t.prev;
-    let mut n: usize = 0;
-    while n < RUN {
-        v = signed::wrapping_add(v, delta);
-        if secs[i + n] != v {
-            return false;
-        }
-        n += 1;
-    }
-    true
+    let next = Track {
+        prev: v,
+        delta: t.delta,
+    };
+    Some((next, rest))
 }

@@ -4,7 +4,7 @@ ghost use Rattle.std.proofs.lemmas.List.Edits.{sets};
 ghost use Rattle.told.specs.Over.{over};
 ghost use Rattle.gorilla.specs.Format.{le_bytes, image_bytes};
 
-use array_writer::inner::{write_secs, write_seqs};
+use array_writer::inner::write_array;
 
 // The version, and the pair count in four bytes, the least significant first.
 fn write_header(out: &mut [u8], count: usize)
@@ -25,6 +25,6 @@ pub fn write_image(seqs: &[u64], secs: &[i64], out: &mut [u8]) -> usize
     ensures out { out.new ≡ over (image_bytes seqs.now secs.now) out.old }
 {
     write_header(out, seqs.len());
-    let end = write_seqs(out, 5, seqs);
-    write_secs(out, end, secs)
+    let end = write_array(out, 5, seqs);
+    write_array(out, end, secs)
 }
