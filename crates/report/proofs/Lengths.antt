@@ -2,33 +2,48 @@
 use Prim.Native.Nat.{ℕ, zero, suc, ◌+◌, ◌*◌, ◌≤◌}
 use native.Mathlib.Numerals.{add-one}
 use native.Mathlib.Omega.{arith}
-use mathlib.Core.Path.{◌≡◌, refl}
-use mathlib.Core.Bool.{Bool, true, false}
+use mathlib.Core.Path.{◌≡◌, refl, ap}
+use mathlib.Core.Bool.{Bool, true, false, cond}
 use mathlib.Core.List.{List, ◌++◌}
 use lib.IntN.{ℤ, pos}
-use lib.ListN.{length, get_or, length-append}
-use Rattle.calendar.specs.Inner.{date_of, moment_at}
+use lib.ListN.{length, get_or, take, length-append, take-append-drop}
+use Rattle.text.specs.Ascii.{ascii}
+use Rattle.text.specs.Text.{word_line}
 use Rattle.text.specs.Inner.{Put}
-use Rattle.text.proofs.Numbers.{decimal-length, signed-length}
-use Rattle.date_writer.proofs.Texts.{text_length}
-use Rattle.report.specs.Lines.{line, lines}
-use Rattle.report.specs.Inner.{third_of}
+use Rattle.text.proofs.Numbers.{decimal-length, word-length}
+use Rattle.report.specs.Lines.{line, lines, entries_text, refused_text}
+use Rattle.report.specs.Inner.{pairs_text}
 
-pub third_length : (dates : Bool) (z : ℤ) → length (third_of dates z) ≤ 21
-third_length true z = omega (arith, text_length (date_of (moment_at z)))
-third_length false z = signed-length z
+pub taken-length : (n : ℕ) (l : List ℤ) → length (take n l) ≤ length l
+taken-length n l = omega (arith, simp length-append at (ap length (take-append-drop n l)))
 
-module _ (dates : Bool) where
-  line-length : (i q : ℕ) (s : ℤ) → length (line (third_of dates) i q s) ≤ 64
+pub refused-length : (n : ℕ) → length (refused_text n) ≤ 29
+unfolding refused_text
+refused-length n = word-length (ascii "refused ") n
+
+module _ (third : ℤ → List ℕ) (short : (z : ℤ) → length (third z) ≤ 21) where
+  line-length : (i q : ℕ) (s : ℤ) → length (line third i q s) ≤ 64
   unfolding line
-  line-length i q s = simp length-append (omega (arith, decimal-length i, decimal-length q, third_length dates s))
+  line-length i q s = simp length-append (omega (arith, decimal-length i, decimal-length q, short s))
 
-  pub lines-length : (qs : List ℕ) (ss : List ℤ) (n : ℕ) → length (lines (third_of dates) qs ss n) ≤ n * 64
-  unfolding lines
-  lines-length qs ss zero = omega arith
-  lines-length qs ss (suc n) =
-      let l = line (third_of dates) n (get_or qs n 0) (get_or ss n (pos 0)) in
-      omega (arith, lines-length qs ss n, line-length n (get_or qs n 0) (get_or ss n (pos 0)), length-append (lines (third_of dates) qs ss n) l)
+  module _ (qs : List ℕ) (ss : List ℤ) where
+    pub lines-length : (n : ℕ) → length (lines third qs ss n) ≤ n * 64
+    unfolding lines
+    lines-length zero = omega arith
+    lines-length (suc n) =
+        let l = line third n (get_or qs n 0) (get_or ss n (pos 0)) in
+        omega (arith, lines-length n, line-length n (get_or qs n 0) (get_or ss n (pos 0)), length-append (lines third qs ss n) l)
+
+    entries_length : (n : ℕ) → length (entries_text third qs ss n) ≤ n * 64 + 29
+    unfolding entries_text
+    entries_length n = omega (arith, length-append (word_line (ascii "entries ") n) (lines third qs ss n), word-length (ascii "entries ") n, lines-length n)
+
+    pub pairs-length : (some_lacks : List ℤ → Bool) → length (pairs_text third some_lacks qs ss) ≤ length ss * 64 + 29
+    pairs-length some_lacks = go (some_lacks ss)
+      where
+        go : (b : Bool) → length (cond b (refused_text 27) (entries_text third qs ss (length ss))) ≤ length ss * 64 + 29
+        go true = omega (arith, refused-length 27)
+        go false = entries_length (length ss)
 
 module _ (third : ℤ → List ℕ) (qs : List ℕ) (ss : List ℤ) where
   pub lines_more : (n : ℕ) → lines third qs ss (n + 1) ≡ lines third qs ss n ++ line third n (get_or qs n 0) (get_or ss n (pos 0))

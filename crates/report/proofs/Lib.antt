@@ -1,5 +1,4 @@
 pub mod Lengths
-mod Thirds
 pub mod Answers
 mod Both
 pub mod Unique

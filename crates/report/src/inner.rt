@@ -1,3 +1,2 @@
 // For our own crates.
 pub use crate::lines::put_refused;
-pub use crate::number::number;

@@ -1,8 +1,15 @@
-use Rattle.std.proofs.Common.{sym, ◌∙◌}
-use Rattle.report.proofs.Thirds.{have_dates}
+use Rattle.std.proofs.Common.{length, arith}
+use Rattle.text.specs.Ascii.{ascii}
+use Rattle.text.proofs.Putting.{then, put_length}
+use Rattle.text.proofs.Numbers.{word-length}
+use Rattle.report.specs.Lines.{entries_text}
 use Rattle.report.proofs.lines.put_pairs.Goals as goal
 
-pub put_entries-requires-clause-held : goal.put_entries-requires-clause-held
-put_entries-requires-clause-held c =
-    let a = c.args in
-    (c.requires.held.0, c.requires.held.1, have_dates a.dates a.secs.now a.count (sym c.lacks_date.ensures ∙ c.if-lacks_date.false))
+pub put_lines-requires-clause-room : goal.put_lines-requires-clause-room
+put_lines-requires-clause-room g c =
+    let put = c.put_word_line-p.ensures in
+    omega (arith, put.ends, put_length put, word-length (ascii "entries ") (length c.args.secs.now))
+
+pub returns : goal.returns
+unfolding entries_text
+returns g c = rw (← c.some_lacks.ensures, c.if-some_lacks.false) (then c.put_word_line-p.ensures c.put_lines.ensures)
