@@ -19,15 +19,14 @@ use Rattle.gorilla.specs.Reading.{read_code, read_codes, values_after}
 use Rattle.gorilla.specs.declared.Track.{Track}
 use Rattle.gorilla.proofs.Readers.{codes_next}
 use Rattle.array_reader.specs.Inner.{array_at, passed_at}
+use Rattle.array_reader.specs.declared.array.Stretch.{Stretch}
+use Rattle.array_filler.specs.Inner.{ahead}
+use Rattle.array_filler.specs.declared.fill.Cursor.{Cursor}
 use Rattle.array_reader.proofs.Arrays.{array_length, array_first, array_none}
 
 -- values stored from the start on, and past them what stood there
 pub sets_over : {A : Type 0} (vs xs : List A) → length vs ≤ length xs → sets xs 0 vs ≡ over vs xs
 sets_over {A} vs xs h = sets-eq vs xs 0 (rw (zero-add) h) ∙ ap (λ (k : ℕ). vs ++ drop k xs) (zero-add (length vs))
-
-pub map_id : {A : Type 0} (xs : List A) → map (λ z. z) xs ≡ xs
-map_id [] = refl
-map_id {A} (x ∷ xs) = ap (λ (ys : List A). x ∷ ys) (map_id xs)
 
 module _ {A : Type 0} (f : ℤ → A) where
   -- the array, once all that is left to read is stored from i on
@@ -50,6 +49,12 @@ module _ {A : Type 0} (f : ℤ → A) where
       let e = codes_next all a k i bs h in
       let n = next out i t d (read_codes all a k (i + 1) q) (ap is_read (sym e) ∙ r) in
       (n.0, n.1 ∙ ap (filled out i t) (sym e))
+
+-- all codes from index i on are there, and stored they make the whole array
+abbrev pub Left : {A : Type 0} → (ℤ → A) → List ℕ → Stretch → List A → Cursor → List A → ℕ → Cursor → Type 0
+Left f s part out₀ c₀ out i c = (a : ℕ) → passed_at s a part.count part.at
+    → (is_read (read_codes (length s * 8) a (part.count - i) i (ahead s c)) ≡ true)
+    × (filled f out i c.track (read_codes (length s * 8) a (part.count - i) i (ahead s c)) ≡ filled f out₀ 1 c₀.track (read_codes (length s * 8) a (part.count - 1) 1 (ahead s c₀)))
 
 -- the whole array, once its first value is stored and the others follow
 pub filled-over : {A : Type 0} (f : ℤ → A) (s : List ℕ) (a n : ℕ) (x : ℤ) (q : Place) (out : List A) → 1 ≤ n → n ≤ length out → passed_at s a n q

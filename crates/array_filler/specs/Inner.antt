@@ -14,6 +14,6 @@ ahead xs c = replicate c.zeros 0 ++ bits_from xs c.at
 abbrev pub Stepped : List ℕ → ℕ → ℕ → Cursor → Cursor → Type 0
 Stepped xs a i c r = (d : ℤ) × (read d (ahead xs r) ≡ read_code (length xs * 8) a i (ahead xs c)) × (r.track ≡ followed c.track d)
 
--- a cursor that has no zeros left, and whose next code is there, of whatever index
+-- a cursor whose next code is there, of whatever index
 abbrev pub CanStep : List ℕ → Cursor → Type 0
-CanStep xs c = (c.zeros ≡ 0) × (8 ≤ length xs) × ((a : ℕ) × (i : ℕ) × (is_read (read_code (length xs * 8) a i (ahead xs c)) ≡ true))
+CanStep xs c = (8 ≤ length xs) × ((a : ℕ) × (i : ℕ) × (is_read (read_code (length xs * 8) a i (ahead xs c)) ≡ true))

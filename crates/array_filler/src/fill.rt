@@ -1,14 +1,14 @@
 // The values of an array that was looked over, stored into a lent array.
 ghost use Rattle.std.specs.Prelude.{◌≡◌, List, map, ℕ, ◌≤◌, ◌<◌, length};
 ghost use Rattle.told.specs.Over.{over};
-ghost use Rattle.signed.specs.Signed.{pattern};
-ghost use Rattle.array_reader.specs.Inner.{array_at, passed_at};
+ghost use Rattle.array_reader.specs.Inner.{passed_at, values_of};
 ghost use Rattle.array_filler.specs.Inner.{Stepped, CanStep};
 
+use array_reader::inner::Stretch;
 use bits::Place;
 use code_reader::inner::{read_code, window_at, zeros};
-use gorilla::Track;
 use gorilla::inner::follow;
+use gorilla::{Stored, Track};
 
 // A value, the delta that led to it, and the codes after it: so many of one zero bit that were found already, and
 // then those at a place.
@@ -19,106 +19,77 @@ pub struct Cursor {
     pub track: Track,
 }
 
-// One value on, by a code of one zero bit that was found already.
-fn coast(c: Cursor) -> Cursor
-    requires { 0 < c.zeros }
-    ensures { (xs : List ℕ) (a i : ℕ) → Stepped xs a i c result }
-{
-    let at = c.at;
-    let t = c.track;
-    Cursor {
-        zeros: c.zeros - 1,
-        at: at,
-        track: follow(t, 0),
+impl Cursor {
+    // One value on, by a code that is there.
+    fn next(self, s: &[u8]) -> Cursor
+        requires { CanStep s.now self }
+        ensures { (a i : ℕ) → Stepped s.now a i self result }
+    {
+        if 0 < self.zeros {
+            self.coast()
+        } else {
+            self.step(s)
+        }
+    }
+
+    // One value on, by a code of one zero bit that was found already.
+    fn coast(self) -> Cursor
+        requires { 0 < self.zeros }
+        ensures { (xs : List ℕ) (a i : ℕ) → Stepped xs a i self result }
+    {
+        Cursor {
+            zeros: self.zeros - 1,
+            at: self.at,
+            track: follow(self.track, 0),
+        }
+    }
+
+    // One value on, by a code that is there, where no zeros are left. Codes of one zero bit are the common ones: it finds
+    // as many as one window has.
+    fn step(self, s: &[u8]) -> Cursor
+        requires { (self.zeros ≡ 0) × CanStep s.now self }
+        ensures { (a i : ℕ) → Stepped s.now a i self result }
+    {
+        let w = window_at(s, self.at);
+        let z = zeros(w, 64);
+        if 0 < z {
+            return Cursor {
+                zeros: z as usize - 1,
+                at: bits::inner::after(self.at, z),
+                track: follow(self.track, 0),
+            };
+        }
+        match read_code(w) {
+            Ok(code) => Cursor {
+                zeros: 0,
+                at: bits::inner::after(self.at, code.bits),
+                track: follow(self.track, code.diff),
+            },
+            // never met: the codes were looked over
+            Err(_) => self,
+        }
     }
 }
 
-// One value on, by a code that is there, where no zeros are left. Codes of one zero bit are the common ones: it finds
-// as many as one window has.
-fn step(s: &[u8], c: Cursor) -> Cursor
-    requires { CanStep s.now c }
-    ensures { (a i : ℕ) → Stepped s.now a i c result }
+// The values of an array into the first places of a lent one; the places after them keep what they held.
+pub fn fill<T: Stored>(s: &[u8], part: Stretch, out: &mut [T])
+    requires { (part.count ≤ length out.old) × ((a : ℕ) × passed_at s.now a part.count part.at) }
+    ensures { (a : ℕ) → passed_at s.now a part.count part.at → out.new ≡ over (map T.of_z (values_of s.now a part)) out.old }
 {
-    let at = c.at;
-    let t = c.track;
-    let w = window_at(s, at);
-    let z = zeros(w, 64);
-    if 0 < z {
-        return Cursor {
-            zeros: z as usize - 1,
-            at: bits::inner::after(at, z),
-            track: follow(t, 0),
-        };
-    }
-    match read_code(w) {
-        Ok(code) => Cursor {
-            zeros: 0,
-            at: bits::inner::after(at, code.bits),
-            track: follow(t, code.diff),
-        },
-        // never met: the codes were looked over
-        Err(_) => c,
-    }
-}
-
-// The values of an array of seconds, and past them what stood there.
-pub fn fill_secs(s: &[u8], at: Place, count: usize, first: i64, out: &mut [i64])
-    requires { (count ≤ length out.old) × passed_at s.now 1 count at }
-    ensures { out.new ≡ over (array_at s.now 1 count first at) out.old }
-{
-    if count == 0 {
+    if part.count == 0 {
         return;
     }
-    out[0] = first;
+    out[0] = T::from_signed(part.first);
     let mut c = Cursor {
         zeros: 0,
-        at: at,
+        at: part.at,
         track: Track {
-            prev: first,
+            prev: part.first,
             delta: 0,
         },
     };
-    let mut i: usize = 1;
-    while i < count {
-        if 0 < c.zeros {
-            c = coast(c);
-        } else {
-            c = step(s, c);
-        }
-        let t = c.track;
-        let v = t.prev;
-        out[i] = v;
-        i += 1;
-    }
-}
-
-// The same of sequences, by their bit patterns.
-pub fn fill_seqs(s: &[u8], at: Place, count: usize, first: i64, out: &mut [u64])
-    requires { (count ≤ length out.old) × passed_at s.now 0 count at }
-    ensures { out.new ≡ over (map pattern (array_at s.now 0 count first at)) out.old }
-{
-    if count == 0 {
-        return;
-    }
-    out[0] = signed::as_unsigned(first);
-    let mut c = Cursor {
-        zeros: 0,
-        at: at,
-        track: Track {
-            prev: first,
-            delta: 0,
-        },
-    };
-    let mut i: usize = 1;
-    while i < count {
-        if 0 < c.zeros {
-            c = coast(c);
-        } else {
-            c = step(s, c);
-        }
-        let t = c.track;
-        let v = signed::as_unsigned(t.prev);
-        out[i] = v;
-        i += 1;
+    for i in 1..part.count {
+        c = c.next(s);
+        out[i] = T::from_signed(c.track.prev);
     }
 }

@@ -1,2 +1,2 @@
 // What our own crates call: an array's values, stored.
-pub use crate::fill::{fill_secs, fill_seqs};
+pub use crate::fill::fill;

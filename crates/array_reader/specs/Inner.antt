@@ -26,8 +26,12 @@ unfoldable pub array_at : List ℕ → ℕ → ℕ → ℤ → Place → List �
 array_at xs a zero f q = []
 array_at xs a (suc k) f q = f ∷ values_after f (pos 0) (read_or [] (read_codes (length xs * 8) a k 1 (bits_from xs q)))
 
+-- those of an array that was found
+abbrev pub values_of : List ℕ → ℕ → Stretch → List ℤ
+values_of xs a f = array_at xs a f.count f.first f.at
+
 abbrev pub told_array : List ℕ → Array → Result Stretch Refusal → Read (List ℤ)
-told_array xs a (Ok f) = read (array_at xs (array_no a) f.count f.first f.at) (drop (f.end * 8) (bits_of xs))
+told_array xs a (Ok f) = read (values_of xs (array_no a) f) (drop (f.end * 8) (bits_of xs))
 told_array xs a (Err r) = refused (told r)
 
 -- what was read, and the next whole byte

@@ -2,7 +2,7 @@
 ghost use Rattle.std.specs.Prelude.{◌≡◌};
 ghost use Rattle.decoder.specs.Decode.{Decodes, told_image_len, image_len_rule, rest_rule, rest_from, onwards};
 
-use array_filler::inner::{fill_secs, fill_seqs};
+use array_filler::inner::fill;
 use code_reader::Refusal;
 use image_reader::inner::scan_image;
 
@@ -16,10 +16,9 @@ pub fn decode(bytes: &[u8], seqs: &mut [u64], secs: &mut [i64]) -> Result<usize,
 {
     let max = seqs.len().min(secs.len());
     let p = scan_image(bytes, max)?;
-    let n = p.secs.count;
-    fill_seqs(bytes, p.seqs.at, n, p.seqs.first, seqs);
-    fill_secs(bytes, p.secs.at, n, p.secs.first, secs);
-    Ok(n)
+    fill(bytes, p.seqs, seqs);
+    fill(bytes, p.secs, secs);
+    Ok(p.secs.count)
 }
 
 // An image's length. No array is lent, so no count is too great.

@@ -1,22 +1,17 @@
 -- What our own functions promise each other. No public statement cites this file.
-use Rattle.std.specs.Prelude.{ℕ, ◌*◌, ◌≤◌, ◌≡◌, Bool, List, [], ◌∷◌, map, drop, length, ℤ, Result, Ok, Err}
+use Rattle.std.specs.Prelude.{ℕ, ◌*◌, ◌≤◌, ◌≡◌, Bool, List, [], ◌∷◌, map, drop, length, Result, Ok, Err}
 use Rattle.signed.specs.Signed.{pattern}
 use Rattle.bit_lists.specs.BitList.{bits_of}
 use Rattle.gorilla.specs.Parser.{Read, read, refused}
 use Rattle.gorilla.specs.Reading.{Pairs, le_count, read_arrays, read_image}
 use Rattle.code_reader.specs.Refusal.{told}
-use Rattle.array_reader.specs.Inner.{array_at, passed_at, Agrees}
+use Rattle.array_reader.specs.Inner.{values_of, passed_at, Agrees}
 use Rattle.image_reader.specs.declared.image.Parts.{Parts}
-use Rattle.array_reader.specs.declared.array.Stretch.{Stretch}
 use Rattle.code_reader.specs.declared.Refusal.{Refusal}
-
--- the values of array a that were found in the bytes xs
-abbrev pub found_at : List ℕ → ℕ → Stretch → List ℤ
-found_at xs a f = array_at xs a f.count f.first f.at
 
 -- the pairs whose parts stand in the bytes xs
 abbrev pub pairs_at : List ℕ → Parts → Pairs
-pairs_at xs p = record { seqs = map pattern (found_at xs 0 p.seqs); secs = found_at xs 1 p.secs }
+pairs_at xs p = record { seqs = map pattern (values_of xs 0 p.seqs); secs = values_of xs 1 p.secs }
 
 abbrev pub told_image : List ℕ → Result Parts Refusal → Read Pairs
 told_image xs (Ok p) = read (pairs_at xs p) (drop (p.secs.end * 8) (bits_of xs))

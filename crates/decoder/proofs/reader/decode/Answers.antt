@@ -1,19 +1,15 @@
-use borrow.Author.Rules.{rules}
 use native.Mathlib.Omega.{arith}
 use Prim.Native.Nat.{ℕ, min}
 use mathlib.Core.Path.{◌≡◌, sym, ap, ◌∙◌}
-use mathlib.Core.List.{List, map}
+use mathlib.Core.List.{List}
+use Rattle.std.proofs.Common.{map-id}
 use lib.Dec.{leb}
 use lib.ListN.{length}
 use lib.IntN.{ℤ}
-use mir.Syntax.{w64}
-use mir.Val.{SFits}
-use mir.Facts.{to_z-of_z}
 use Rattle.told.specs.Over.{over}
-use Rattle.signed.specs.Signed.{pattern}
 use Rattle.told.specs.Told.{gave}
 use Rattle.decoder.specs.Decode.{listed, count_of, Decodes}
-use Rattle.array_reader.specs.Inner.{array_at}
+use Rattle.array_reader.specs.Inner.{values_of}
 use Rattle.image_reader.specs.Inner.{told_image, ReadsImage}
 use Rattle.std.specs.Prelude.{Result, Ok, Err}
 use Rattle.code_reader.specs.declared.Refusal.{Refusal}
@@ -27,17 +23,21 @@ scan_is : (bytes seqs : List ℕ) (secs : List ℤ) {max : ℕ} (x : Result Part
 unfolding listed
 scan_is bytes seqs secs x e h = h.0 (λ n. leb n (min (length seqs) (length secs))) (λ n k. ap (leb n) (sym e))
 
+pub fill-requires : goal.fill-requires
+fill-requires c = let h = c.in_ok-p.ensures.1 in (omega (arith, h.2, h.3, c.min-max.ensures), (0, h.0))
+
+pub fill-requires-2 : goal.fill-requires-2
+fill-requires-2 c = let h = c.in_ok-p.ensures.1 in (omega (arith, h.3, c.min-max.ensures), (1, h.1))
+
 pub returns : goal.returns
 returns c =
     let s = c.args.bytes.now in
     let p = c.in_ok-p.p in
-    let i = scan_is s c.args.seqs.now c.args.secs.now (Ok p) c.min-max.ensures c.in_ok-p.ensures in
-    let f : SFits w64 p.seqs.first = search rules in
-    let g : SFits w64 p.secs.first = search rules in
-    let e : p.secs.count ≡ p.seqs.count = sym c.in_ok-p.ensures.1.2 in (
-      ap gave (sym (array_length s 1 p.secs.count p.secs.first p.secs.at c.in_ok-p.ensures.1.1)) ∙ ap count_of i,
-      ◌∙◌ {b = over (map pattern (array_at s 0 p.seqs.count p.seqs.first p.seqs.at)) c.args.seqs.now} (rw (to_z-of_z f, e) at c.fill_seqs.ensures) (ap (seqs_over c.args.seqs.now) i),
-      ◌∙◌ {b = over (array_at s 1 p.secs.count p.secs.first p.secs.at) c.args.secs.now} (rw (to_z-of_z g) at c.fill_secs.ensures) (ap (secs_over c.args.secs.now) i),
+    let h = c.in_ok-p.ensures.1 in
+    let i = scan_is s c.args.seqs.now c.args.secs.now (Ok p) c.min-max.ensures c.in_ok-p.ensures in (
+      ap gave (sym (array_length s 1 p.secs.count p.secs.first p.secs.at h.1)) ∙ ap count_of i,
+      c.fill.ensures 0 h.0 ∙ ap (seqs_over c.args.seqs.now) i,
+      c.fill-2.ensures 1 h.1 ∙ ap (λ (xs : List ℤ). over xs c.args.secs.now) (map-id (values_of s 1 p.secs)) ∙ ap (secs_over c.args.secs.now) i,
     )
 
 -- a refused image

@@ -13,11 +13,11 @@ use Rattle.gorilla.specs.Parser.{read, refused}
 use Rattle.gorilla.specs.Reading.{read_part}
 use Rattle.gorilla.specs.declared.Array.{Array}
 use Rattle.gorilla.specs.declared.Array.TheVariants.{Sequences, Seconds}
-use Rattle.array_reader.specs.Inner.{Agrees, ReadsArray}
+use Rattle.array_reader.specs.Inner.{values_of, Agrees, ReadsArray}
 use Rattle.std.specs.Prelude.{Ok, Err}
 use Rattle.array_reader.specs.declared.array.Stretch.{Stretch}
 use Rattle.code_reader.specs.declared.Refusal.{Refusal}
-use Rattle.image_reader.specs.Inner.{ReadsArrays, found_at}
+use Rattle.image_reader.specs.Inner.{ReadsArrays}
 use Rattle.array_reader.proofs.Arrays.{array_length, array_room, part-found, part_differs, part-refused}
 use Rattle.image_reader.proofs.Header.{arrays-found, first-refused, second-refused}
 use Rattle.image_reader.proofs.image.scan_arrays.Goals as goal
@@ -25,7 +25,7 @@ use Rattle.image_reader.proofs.image.scan_arrays.Goals as goal
 -- an array that was found, as one part of an image of n pairs
 module _ (s : List ℕ) (from max n : ℕ) (a : Array) (f : Stretch) (h : ReadsArray s from max a (Ok f)) where
   abbrev xs : List ℤ
-  xs = found_at s (array_no a) f
+  xs = values_of s (array_no a) f
 
   length_is : length xs ≡ f.count
   length_is = array_length s (array_no a) f.count f.first f.at h.1.0
