@@ -1,5 +1,5 @@
 -- The cases of many questions, a part of the table in Cases.antt.
-use Rattle.std.specs.Prelude.{ℕ, ◌≡◌, List, [], ◌∷◌, ◌++◌, map, pos, replicate}
+use Rattle.std.specs.Prelude.{ℕ, ◌≡◌, List, [], ◌∷◌, ◌++◌, map, pos, replicate, Ok}
 use Rattle.told.specs.Told.{refused}
 use Rattle.tracker.specs.declared.Seq.{Seq}
 use Rattle.tracker.specs.declared.Second.{Second}
@@ -8,7 +8,6 @@ use Rattle.lookup.specs.Find.{Partner, partner, nothing}
 use Rattle.lookup.specs.declared.FindOption.{FindOption}
 use Rattle.lookup.specs.declared.FindOption.TheVariants.{RoundUp, RoundDown}
 use Rattle.questions.specs.Stands.{ts_stands, seq_stands}
-use Rattle.questions.specs.declared.Asked.TheVariants.{Done}
 use Rattle.questions.specs.declared.TsAnswer.{TsAnswer}
 use Rattle.questions.specs.declared.SeqAnswer.{SeqAnswer}
 use Rattle.sheets.specs.Sheet.{sheet_rule, FindsTs16, FindsSeq16}
@@ -43,10 +42,10 @@ seq_three a b c answers = record { keys = second a ∷ second b ∷ second c ∷
 
 -- asked of P8's table, it comes back so
 abbrev pub TsComes : TsSheet → FindOption → TsSheet → Type 0
-TsComes s opt back = FindsTs16 eighth.state eighth.seqs eighth.secs s opt (record { asked = Done; sheet = back })
+TsComes s opt back = FindsTs16 eighth.state eighth.seqs eighth.secs s opt (record { asked = Ok tt; sheet = back })
 
 abbrev pub SeqComes : SeqSheet → FindOption → SeqSheet → Type 0
-SeqComes s opt back = FindsSeq16 eighth.state eighth.seqs eighth.secs s opt (record { asked = Done; sheet = back })
+SeqComes s opt back = FindsSeq16 eighth.state eighth.seqs eighth.secs s opt (record { asked = Ok tt; sheet = back })
 
 -- three answers in their places, by sequence and by second
 abbrev pub ts3 : Partner Second → Partner Second → Partner Second → List TsAnswer
@@ -82,6 +81,6 @@ pub record QuestionCases : Type 0 where
   pub order : (sheet_rule unlent [] [] 17 ≡ refused (35 ∷ [])) × (sheet_rule unlent [] [] 16 ≡ refused (14 ∷ [])) × (sheet_rule eighth.state eighth.seqs eighth.secs 17 ≡ refused (35 ∷ []))
   -- the same questions in a list; a list of none is done; 18 before 14
   pub list :
-      FindsTsEach eighth.state eighth.seqs eighth.secs (2 ∷ 6 ∷ 0 ∷ []) RoundUp (three (pos 7)) (three 7) Done (pos 30 ∷ pos 0 ∷ pos 10 ∷ []) (1 ∷ 0 ∷ 1 ∷ [])
-      × FindsTsEach eighth.state eighth.seqs eighth.secs [] RoundUp [] [] Done [] []
+      FindsTsEach eighth.state eighth.seqs eighth.secs (2 ∷ 6 ∷ 0 ∷ []) RoundUp (three (pos 7)) (three 7) (Ok tt) (pos 30 ∷ pos 0 ∷ pos 10 ∷ []) (1 ∷ 0 ∷ 1 ∷ [])
+      × FindsTsEach eighth.state eighth.seqs eighth.secs [] RoundUp [] [] (Ok tt) [] []
   pub list_order : (list_rule unlent [] [] 1 0 1 ≡ refused (18 ∷ [])) × (list_rule unlent [] [] 1 1 0 ≡ refused (18 ∷ [])) × (list_rule unlent [] [] 1 1 1 ≡ refused (14 ∷ []))

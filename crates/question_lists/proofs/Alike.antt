@@ -4,6 +4,7 @@ use mathlib.Core.Path.{◌≡◌, subst, ◌∙◌}
 use mathlib.Core.List.{List}
 use lib.IntN.{ℤ}
 use lib.ListN.{length}
+use Rattle.std.specs.Prelude.{Result}
 use Rattle.told.specs.Told.{Told, gave, refused}
 use Rattle.tracker.specs.Table.{check_of}
 use Rattle.tracker.specs.declared.Seq.{Seq}
@@ -11,7 +12,7 @@ use Rattle.tracker.specs.declared.Second.{Second}
 use Rattle.tracker.specs.declared.SequenceTracker.{SequenceTracker}
 use Rattle.lookup.specs.Find.{Partner, find_ts, find_seq, seq_at, second_at}
 use Rattle.lookup.specs.declared.FindOption.{FindOption}
-use Rattle.questions.specs.declared.Asked.{Asked}
+use Rattle.questions.specs.declared.Refusal.{Refusal}
 use Rattle.question_lists.specs.Each.{list_rule, ts_place, seq_place, Leaves, FindsTsEach, FindsSeqEach}
 use Rattle.question_lists.proofs.Fill.{filled-by}
 
@@ -28,13 +29,13 @@ module _ (t t' : SequenceTracker) (seqs seqs' : List ℕ) (secs secs' : List ℤ
   same-told : (keys answers found : ℕ) → list_rule t seqs secs keys answers found ≡ list_rule t' seqs' secs' keys answers found
   same-told keys answers found = rw check
 
-  pub ts_alike : ((x : Seq) → find_ts t seqs secs x opt ≡ find_ts t' seqs' secs' x opt) → (keys : List ℕ) (old : List ℤ) (marks : List ℕ) (r : Asked) (a : List ℤ) (f : List ℕ)
+  pub ts_alike : ((x : Seq) → find_ts t seqs secs x opt ≡ find_ts t' seqs' secs' x opt) → (keys : List ℕ) (old : List ℤ) (marks : List ℕ) (r : Result (Unit {0}) Refusal) (a : List ℤ) (f : List ℕ)
       → FindsTsEach t seqs secs keys opt old marks r a f → FindsTsEach t' seqs' secs' keys opt old marks r a f
   ts_alike same keys old marks r a f h =
       let e = same-told (length keys) (length old) (length marks) in
       (h.0 ∙ e, left_by_lem _ _ _ (seq_at keys) ts_place same _ _ (length keys) old marks a f e h.1)
 
-  pub seq_alike : ((x : Second) → find_seq t seqs secs x opt ≡ find_seq t' seqs' secs' x opt) → (keys : List ℤ) (old marks : List ℕ) (r : Asked) (a f : List ℕ)
+  pub seq_alike : ((x : Second) → find_seq t seqs secs x opt ≡ find_seq t' seqs' secs' x opt) → (keys : List ℤ) (old marks : List ℕ) (r : Result (Unit {0}) Refusal) (a f : List ℕ)
       → FindsSeqEach t seqs secs keys opt old marks r a f → FindsSeqEach t' seqs' secs' keys opt old marks r a f
   seq_alike same keys old marks r a f h =
       let e = same-told (length keys) (length old) (length marks) in

@@ -5,11 +5,12 @@ use mathlib.Core.List.{List}
 use lib.IntN.{ℤ, pos}
 use lib.ListN.{length, get_or}
 use lib.Seq.{ext_get_or}
+use Rattle.std.specs.Prelude.{Result}
 use Rattle.told.specs.Told.{Told, gave, refused}
 use Rattle.tracker.specs.declared.SequenceTracker.{SequenceTracker}
 use Rattle.lookup.specs.Find.{Partner, seq_at, second_at}
 use Rattle.lookup.specs.declared.FindOption.{FindOption}
-use Rattle.questions.specs.declared.Asked.{Asked}
+use Rattle.questions.specs.declared.Refusal.{Refusal}
 use Rattle.questions.specs.declared.TsAnswer.{TsAnswer}
 use Rattle.questions.specs.declared.SeqAnswer.{SeqAnswer}
 use Rattle.questions.proofs.Answered.{answered_once}
@@ -49,14 +50,14 @@ one_seq_left table seqs secs keys opt old marks =
 
 -- of `find_ts_each` and `find_seq_each`
 pub one_ts_each : (table : SequenceTracker) (seqs : List ℕ) (secs : List ℤ) (keys : List ℕ) (opt : FindOption) (old : List ℤ) (marks : List ℕ)
-    (r₁ r₂ : Asked) (a b : List ℤ) (f g : List ℕ)
+    (r₁ r₂ : Result (Unit {0}) Refusal) (a b : List ℤ) (f g : List ℕ)
     → FindsTsEach table seqs secs keys opt old marks r₁ a f → FindsTsEach table seqs secs keys opt old marks r₂ b g → (r₁ ≡ r₂) × (a ≡ b) × (f ≡ g)
 one_ts_each table seqs secs keys opt old marks r₁ r₂ a b f g h k =
     let left = one_ts_left table seqs secs keys opt old marks a b f g h.1 k.1 in
     (one_asked r₁ r₂ (h.0 ∙ sym k.0), left.0, left.1)
 
 pub one_seq_each : (table : SequenceTracker) (seqs : List ℕ) (secs : List ℤ) (keys : List ℤ) (opt : FindOption) (old marks : List ℕ)
-    (r₁ r₂ : Asked) (a b f g : List ℕ)
+    (r₁ r₂ : Result (Unit {0}) Refusal) (a b f g : List ℕ)
     → FindsSeqEach table seqs secs keys opt old marks r₁ a f → FindsSeqEach table seqs secs keys opt old marks r₂ b g → (r₁ ≡ r₂) × (a ≡ b) × (f ≡ g)
 one_seq_each table seqs secs keys opt old marks r₁ r₂ a b f g h k =
     let left = one_seq_left table seqs secs keys opt old marks a b f g h.1 k.1 in

@@ -1,5 +1,5 @@
 -- A list of questions in a lent slice, and its answers in two more: the answers, and beside each its mark.
-use Rattle.std.specs.Prelude.{ℕ, ◌≡◌, Bool, cond, not, ◌||◌, List, [], ◌∷◌, eqb, ℤ, length, get_or}
+use Rattle.std.specs.Prelude.{ℕ, ◌≡◌, Bool, cond, not, ◌||◌, List, [], ◌∷◌, eqb, ℤ, length, get_or, Result}
 use Rattle.told.specs.Told.{Told, refused}
 use Rattle.tracker.specs.Table.{check_of}
 use Rattle.tracker.specs.declared.SequenceTracker.{SequenceTracker}
@@ -8,7 +8,7 @@ use Rattle.lookup.specs.declared.FindOption.{FindOption}
 use Rattle.questions.specs.Stands.{ts_stands, seq_stands}
 use Rattle.questions.specs.Asked.{told_asked, IfDone}
 use Rattle.questions.specs.Answered.{Answered}
-use Rattle.questions.specs.declared.Asked.{Asked}
+use Rattle.questions.specs.declared.Refusal.{Refusal}
 use Rattle.questions.specs.declared.TsAnswer.{TsAnswer}
 use Rattle.questions.specs.declared.SeqAnswer.{SeqAnswer}
 
@@ -51,10 +51,10 @@ SeqLeft table seqs secs keys opt answers found =
     (list_rule table seqs secs (length keys) (length answers) (length found)) (length keys) answers found
 
 -- `find_ts_each` and `find_seq_each`: what is told, and the slices afterwards
-abbrev pub FindsTsEach : SequenceTracker → List ℕ → List ℤ → List ℕ → FindOption → List ℤ → List ℕ → Asked → List ℤ → List ℕ → Type 0
+abbrev pub FindsTsEach : SequenceTracker → List ℕ → List ℤ → List ℕ → FindOption → List ℤ → List ℕ → Result (Unit {0}) Refusal → List ℤ → List ℕ → Type 0
 FindsTsEach table seqs secs keys opt answers found r answers' found' =
     (told_asked r ≡ list_rule table seqs secs (length keys) (length answers) (length found)) × TsLeft table seqs secs keys opt answers found answers' found'
 
-abbrev pub FindsSeqEach : SequenceTracker → List ℕ → List ℤ → List ℤ → FindOption → List ℕ → List ℕ → Asked → List ℕ → List ℕ → Type 0
+abbrev pub FindsSeqEach : SequenceTracker → List ℕ → List ℤ → List ℤ → FindOption → List ℕ → List ℕ → Result (Unit {0}) Refusal → List ℕ → List ℕ → Type 0
 FindsSeqEach table seqs secs keys opt answers found r answers' found' =
     (told_asked r ≡ list_rule table seqs secs (length keys) (length answers) (length found)) × SeqLeft table seqs secs keys opt answers found answers' found'

@@ -5,7 +5,7 @@ ghost use Rattle.std.specs.Prelude.{◌≡◌};
 ghost use Rattle.question_lists.specs.Each as rules;
 
 use lookup::FindOption;
-use questions::Asked;
+use questions::Refusal;
 use questions::inner::judged;
 use tracker::SequenceTracker;
 
@@ -16,10 +16,7 @@ mod by_seq; // by_seq.rt: the answers to questions by sequence
 fn differ(keys: usize, answers: usize, found: usize) -> bool
     ensures { result ≡ rules.differ keys answers found }
 {
-    if keys != answers {
-        return true;
-    }
-    keys != found
+    keys != answers || keys != found
 }
 
 // The second for each sequence number: `found` is 1 beside it, or both are 0 where nothing is answered.
@@ -31,19 +28,15 @@ pub fn find_ts_each(
     answers: &mut [i64],
     found: &mut [u8],
     find_opt: FindOption,
-) -> Asked
+) -> Result<(), Refusal>
     ensures { rules.FindsTsEach table seqs.now secs.now keys.now find_opt
         answers.old found.old result answers.new found.new }
 {
     let m = keys.len();
     let differ = differ(m, answers.len(), found.len());
-    let asked = judged(table, seqs, secs, differ, Asked::LengthsDiffer);
-    let Asked::Done = asked else {
-        return asked;
-    };
-    let n = table.count;
-    by_seq::answers(seqs, secs, n, keys, answers, found, find_opt);
-    asked
+    judged(table, seqs, secs, differ, Refusal::LengthsDiffer)?;
+    by_seq::answers(seqs, secs, table.count, keys, answers, found, find_opt);
+    Ok(())
 }
 
 // The sequence number for each second.
@@ -55,17 +48,13 @@ pub fn find_seq_each(
     answers: &mut [u64],
     found: &mut [u8],
     find_opt: FindOption,
-) -> Asked
+) -> Result<(), Refusal>
     ensures { rules.FindsSeqEach table seqs.now secs.now keys.now find_opt
         answers.old found.old result answers.new found.new }
 {
     let m = keys.len();
     let differ = differ(m, answers.len(), found.len());
-    let asked = judged(table, seqs, secs, differ, Asked::LengthsDiffer);
-    let Asked::Done = asked else {
-        return asked;
-    };
-    let n = table.count;
-    by_second::answers(seqs, secs, n, keys, answers, found, find_opt);
-    asked
+    judged(table, seqs, secs, differ, Refusal::LengthsDiffer)?;
+    by_second::answers(seqs, secs, table.count, keys, answers, found, find_opt);
+    Ok(())
 }

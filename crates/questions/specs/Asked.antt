@@ -1,15 +1,17 @@
 -- What a call on many questions tells, and what follows from it.
-use Rattle.std.specs.Prelude.{[], ◌∷◌}
-use Rattle.told.specs.Told.{Told, gave, refused}
-use Rattle.tracker.specs.Refusal.{told}
-use Rattle.questions.specs.declared.Asked.{Asked}
-use Rattle.questions.specs.declared.Asked.TheVariants.{Done, TooMany, LengthsDiffer, Refused}
+use Rattle.std.specs.Prelude.{ℕ, List, [], ◌∷◌, Result}
+use Rattle.told.specs.Told.{Told, gave, refused, told_by}
+use Rattle.tracker.specs.Refusal as table
+use Rattle.questions.specs.declared.Refusal.{Refusal}
+use Rattle.questions.specs.declared.Refusal.TheVariants.{TooMany, LengthsDiffer, Table}
 
-abbrev pub told_asked : Asked → Told (Unit {0})
-told_asked Done = gave tt
-told_asked TooMany = refused (35 ∷ [])
-told_asked LengthsDiffer = refused (18 ∷ [])
-told_asked (Refused r) = refused (told r)
+abbrev pub told : Refusal → List ℕ
+told TooMany = 35 ∷ []
+told LengthsDiffer = 18 ∷ []
+told (Table r) = table.told r
+
+abbrev pub told_asked : Result (Unit {0}) Refusal → Told (Unit {0})
+told_asked = told_by told
 
 -- not refused, `done` holds; refused, `same` does
 abbrev pub IfDone : Told (Unit {0}) → Type 0 → Type 0 → Type 0

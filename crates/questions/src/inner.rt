@@ -1,14 +1,14 @@
 // For our own crates: one question to a table that is checked, and what is told.
 ghost use Rattle.std.specs.Prelude.{◌≡◌, cond};
-ghost use Rattle.tracker.specs.Refusal.{told_check};
+ghost use Rattle.told.specs.Told.{refused};
 ghost use Rattle.tracker.specs.Table.{check_of};
 ghost use Rattle.questions.specs.Stands.{ts_stands, seq_stands};
-ghost use Rattle.questions.specs.Asked.{told_asked};
+ghost use Rattle.questions.specs.Asked.{told, told_asked};
 ghost use Rattle.questions.specs.Inner.{GoodPairs, ts_partner, seq_partner};
 
-use crate::{Asked, SeqAnswer, TsAnswer};
+use crate::{Refusal, SeqAnswer, TsAnswer};
 use lookup::FindOption;
-use tracker::{Refusal, Second, Seq, SequenceTracker, check};
+use tracker::{Second, Seq, SequenceTracker, check};
 
 // The answer to one question by sequence, among the first n pairs of a good table.
 pub fn ts_answer(seqs: &[u64], secs: &[i64], n: usize, seq: Seq, find_opt: FindOption) -> TsAnswer
@@ -56,20 +56,19 @@ pub fn seq_answer(
     }
 }
 
-// What is told of a refusal of the call's own and of the check of the table: the own one comes first.
-fn first_of(own: bool, why: Asked, checked: Result<(), Refusal>) -> Asked
-    ensures { told_asked result ≡ cond own (told_asked why) (told_check checked) }
+// What such a call tells: its own refusal where there is one, else what the one check of the table says, for all its questions.
+pub fn judged(
+    table: SequenceTracker,
+    seqs: &[u64],
+    secs: &[i64],
+    own: bool,
+    why: Refusal,
+) -> Result<(), Refusal>
+    ensures { told_asked result ≡ cond own (refused (told why)) (check_of table seqs.now secs.now) }
 {
-    match checked {
-        Ok(()) => { if own { why } else { Asked::Done } }
-        Err(table) => { if own { why } else { Asked::Refused(table) } }
+    if own {
+        return Err(why);
     }
-}
-
-// The one check of the table, for all questions of a call. It is made before the test of the own refusal is heard, so that both come to one place.
-pub fn judged(table: SequenceTracker, seqs: &[u64], secs: &[i64], own: bool, why: Asked) -> Asked
-    ensures { told_asked result ≡ cond own (told_asked why) (check_of table seqs.now secs.now) }
-{
-    let checked = check(table, seqs, secs);
-    first_of(own, why, checked)
+    check(table, seqs, secs)?;
+    Ok(())
 }

@@ -2,7 +2,10 @@
 // sixteen questions in one record, and in `question_lists`, any number in lent slices.
 #![tactic(auto)]
 
-use tracker::{Refusal, Second, Seq};
+ghost use Rattle.std.specs.Prelude.{◌≡◌};
+ghost use Rattle.questions.specs.declared.Refusal.TheVariants.{Table};
+
+use tracker::{Second, Seq};
 
 pub mod inner; // inner.rt: what our own crates call
 
@@ -22,11 +25,18 @@ pub struct SeqAnswer {
     pub seq: Seq,
 }
 
-// What a call on many questions tells. `TooMany` is of sheets, `LengthsDiffer` of lists.
+// Why a call on many questions refuses. `TooMany` is of sheets, `LengthsDiffer` of lists.
 #[derive(Clone, Copy)]
-pub enum Asked {
-    Done,
+pub enum Refusal {
     TooMany,
     LengthsDiffer,
-    Refused(Refusal),
+    Table(tracker::Refusal),
+}
+
+impl From<tracker::Refusal> for Refusal {
+    ghost from_gives = { λ why r. r ≡ Table why };
+
+    fn from(why: tracker::Refusal) -> Refusal {
+        Refusal::Table(why)
+    }
 }

@@ -5,7 +5,7 @@ ghost use Rattle.sheets.specs.Sheet.{FindsTs16, FindsSeq16};
 
 use lookup::FindOption;
 use questions::inner::judged;
-use questions::{Asked, SeqAnswer, TsAnswer};
+use questions::{Refusal, SeqAnswer, TsAnswer};
 use tracker::{Second, Seq, SequenceTracker};
 
 mod by_second; // by_second.rt: the answers to questions by second
@@ -33,15 +33,16 @@ pub struct SeqSheet {
 }
 
 // A sheet as it comes back: with its answers, or, refused, as it went in.
+// Stays: both structs, since `find_ts_16` and `find_seq_16` promise of the sheet that it comes back also where they refuse, which a `Result` has no place for.
 #[derive(Clone, Copy)]
 pub struct TsSheetBack {
-    pub asked: Asked,
+    pub asked: Result<(), Refusal>,
     pub sheet: TsSheet,
 }
 
 #[derive(Clone, Copy)]
 pub struct SeqSheetBack {
-    pub asked: Asked,
+    pub asked: Result<(), Refusal>,
     pub sheet: SeqSheet,
 }
 
@@ -55,19 +56,12 @@ pub fn find_ts_16(
 ) -> TsSheetBack
     ensures { FindsTs16 table seqs.now secs.now sheet find_opt result }
 {
-    let asked = judged(table, seqs, secs, sheet.used > PLACES, Asked::TooMany);
-    let Asked::Done = asked else {
-        return TsSheetBack {
-            asked: asked,
-            sheet: sheet,
-        };
+    let asked = judged(table, seqs, secs, sheet.used > PLACES, Refusal::TooMany);
+    let back = match asked {
+        Ok(()) => by_seq::answers(seqs, secs, table.count, sheet, find_opt),
+        Err(_) => sheet,
     };
-    let n = table.count;
-    let answered = by_seq::answers(seqs, secs, n, sheet, find_opt);
-    TsSheetBack {
-        asked: asked,
-        sheet: answered,
-    }
+    TsSheetBack { asked, sheet: back }
 }
 
 // The sequence numbers for up to sixteen seconds.
@@ -80,17 +74,10 @@ pub fn find_seq_16(
 ) -> SeqSheetBack
     ensures { FindsSeq16 table seqs.now secs.now sheet find_opt result }
 {
-    let asked = judged(table, seqs, secs, sheet.used > PLACES, Asked::TooMany);
-    let Asked::Done = asked else {
-        return SeqSheetBack {
-            asked: asked,
-            sheet: sheet,
-        };
+    let asked = judged(table, seqs, secs, sheet.used > PLACES, Refusal::TooMany);
+    let back = match asked {
+        Ok(()) => by_second::answers(seqs, secs, table.count, sheet, find_opt),
+        Err(_) => sheet,
     };
-    let n = table.count;
-    let answered = by_second::answers(seqs, secs, n, sheet, find_opt);
-    SeqSheetBack {
-        asked: asked,
-        sheet: answered,
-    }
+    SeqSheetBack { asked, sheet: back }
 }

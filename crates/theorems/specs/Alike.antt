@@ -1,5 +1,5 @@
 -- What a table answers depends on the rest of its state, all of it but the totals, and on the pairs that it keeps, as long as the totals have room for the offers made.
-use Rattle.std.specs.Prelude.{ℕ, ◌+◌, ◌≤◌, ◌≡◌, ◌↔◌, List, length, ℤ}
+use Rattle.std.specs.Prelude.{ℕ, ◌+◌, ◌≤◌, ◌≡◌, ◌↔◌, List, length, ℤ, Result}
 use Rattle.told.specs.Told.{Told, gave}
 use Rattle.told.specs.Over.{filled}
 use Rattle.gorilla.specs.Reading.{Pairs}
@@ -12,7 +12,7 @@ use Rattle.tracker.specs.declared.TrackedSeq.{TrackedSeq}
 use Rattle.lookup.specs.Find.{find_ts, find_seq}
 use Rattle.lookup.specs.declared.FindOption.{FindOption}
 use Rattle.explaining.specs.Why.{why_ts, why_seq}
-use Rattle.questions.specs.declared.Asked.{Asked}
+use Rattle.questions.specs.declared.Refusal.{Refusal}
 use Rattle.sheets.specs.Sheet.{FindsTs16, FindsSeq16}
 use Rattle.sheets.specs.declared.TsSheet.{TsSheet}
 use Rattle.sheets.specs.declared.SeqSheet.{SeqSheet}
@@ -57,9 +57,9 @@ ToldAlike So rest l m = (rest l.answer ≡ rest m.answer) × So l.table m.table
 pub record AskedAlike (w v : Table) (opt : FindOption) : Type 0 where
   pub by_ts_sheet : (s : TsSheet) (r : TsSheetBack) → FindsTs16 w.state w.seqs w.secs s opt r ↔ FindsTs16 v.state v.seqs v.secs s opt r
   pub by_seq_sheet : (s : SeqSheet) (r : SeqSheetBack) → FindsSeq16 w.state w.seqs w.secs s opt r ↔ FindsSeq16 v.state v.seqs v.secs s opt r
-  pub ts_each : (keys : List ℕ) (answers : List ℤ) (found : List ℕ) (r : Asked) (answers' : List ℤ) (found' : List ℕ)
+  pub ts_each : (keys : List ℕ) (answers : List ℤ) (found : List ℕ) (r : Result (Unit {0}) Refusal) (answers' : List ℤ) (found' : List ℕ)
       → FindsTsEach w.state w.seqs w.secs keys opt answers found r answers' found' ↔ FindsTsEach v.state v.seqs v.secs keys opt answers found r answers' found'
-  pub seq_each : (keys : List ℤ) (answers : List ℕ) (found : List ℕ) (r : Asked) (answers' : List ℕ) (found' : List ℕ)
+  pub seq_each : (keys : List ℤ) (answers : List ℕ) (found : List ℕ) (r : Result (Unit {0}) Refusal) (answers' : List ℕ) (found' : List ℕ)
       → FindsSeqEach w.state w.seqs w.secs keys opt answers found r answers' found' ↔ FindsSeqEach v.state v.seqs v.secs keys opt answers found r answers' found'
 
 -- the law: two tables of which the check and the single lookups tell the same answer every sheet and every list so

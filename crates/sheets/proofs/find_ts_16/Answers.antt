@@ -11,23 +11,23 @@ use Rattle.questions.proofs.Good.{good-pairs, gives_ts}
 use Rattle.questions.proofs.Left.{if_done}
 use Rattle.sheets.proofs.Fill.{filled-by}
 use Rattle.sheets.proofs.find_ts_16.Goals as goal
-use Rattle.sheets.proofs.find_ts_16.Goals.{In-Done}
+use Rattle.sheets.proofs.find_ts_16.Goals.{In-Ok}
 
 -- not refused, there are at most sixteen questions and the table is good
-passes : (c : In-Done) → let a = c.args in (ltb 16 a.sheet.used ≡ false) × (check_of a.table a.seqs.now a.secs.now ≡ gave tt)
+passes : (c : In-Ok) → let a = c.args in (ltb 16 a.sheet.used ≡ false) × (check_of a.table a.seqs.now a.secs.now ≡ gave tt)
 passes c =
     let a = c.args in
-    passed (ltb 16 a.sheet.used) (35 ∷ []) _ tt (sym c.judged-asked.ensures ∙ ap told_asked c.in-Done.is)
+    passed (ltb 16 a.sheet.used) (35 ∷ []) _ tt (sym c.judged-asked.ensures ∙ ap told_asked c.in-Ok.is)
 
-pub answers-answered-requires : goal.answers-answered-requires
-answers-answered-requires c =
+pub answers-back-requires : goal.answers-back-requires
+answers-back-requires c =
     let a = c.args in
     (good-pairs a.table a.seqs.now a.secs.now (passes c).1, ltb-false _ _ (passes c).0)
 
-pub returns : goal.returns
-returns c =
+pub returns-in-Ok : goal.returns-in-Ok
+returns-in-Ok c =
     let a = c.args in (
       c.judged-asked.ensures,
-      if_done _ _ _ c.judged-asked.result c.in-Done.is c.judged-asked.ensures
-          (filled-by _ _ _ _ _ _ _ (gives_ts a.table a.seqs.now a.secs.now (passes (goal.at.returns c).In-Done).1 a.find_opt) c.answers-answered.ensures),
+      if_done _ _ _ c.judged-asked.result c.in-Ok.is c.judged-asked.ensures
+          (filled-by _ _ _ _ _ _ _ (gives_ts a.table a.seqs.now a.secs.now (passes (goal.at.returns-in-Ok c).In-Ok).1 a.find_opt) c.answers-back.ensures),
     )
