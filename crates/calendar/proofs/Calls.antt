@@ -1,17 +1,16 @@
 -- What the calls of the code come to, over plain numbers. Assumes nothing.
-use mathlib.Core.Path.{◌≡◌, ap, ◌∙◌, sym}
-use mathlib.Core.Bool.{Bool, true, false}
+use mathlib.Core.Path.{◌≡◌, ap, ◌∙◌}
+use mathlib.Core.Bool.{Bool}
 use Prim.Native.Nat.{ℕ, ◌+◌, ◌-◌, ◌*◌, ◌/◌, ◌%◌, ◌≤◌, ◌<◌}
 use native.Mathlib.Omega.{arith}
 use lib.ListN.{take}
 use Rattle.calendar.specs.declared.Date.{Date}
-use Rattle.calendar.specs.Calendar.{leap, days_of_years, summed, lengths_of, moment_of, within, is_day, is_time, is_date}
+use Rattle.calendar.specs.Calendar.{leap, days_of_years, summed, lengths_of, moment_of}
 use Rattle.calendar.specs.Inner.{Part, part, dated, years_before, date_of, Valid}
 use Rattle.calendar.proofs.Parts.{part_in, part-sum}
 use Rattle.calendar.proofs.YearDays.{year-from}
 use Rattle.calendar.proofs.Steps.{year_small}
 use Rattle.calendar.proofs.Trip.{twelve, last-year, in_year, moment_in}
-use Rattle.calendar.proofs.Moments.{within_true}
 
 -- ---- date_at
 module _ (n y : ℕ) (h : n < 315537897600) (e : y ≡ years_before (n / 86400)) where
@@ -46,27 +45,3 @@ module _ (d : Date) (v : Valid d) (r s : ℕ) (l : Bool) (re : r ≡ days_of_yea
 
   pub m_small : (r + s + (d.day - 1)) * 86400 + d.hour * 3600 + d.minute * 60 + d.second < 315537897600
   m_small = omega (arith, m_is, moment_in d v)
-
--- ---- is_valid
-module _ (d : Date) (a : Bool) (ae : a ≡ within 1 9999 d.year) where
-  pub no_year : a ≡ false → a ≡ is_date d
-  unfolding is_date
-  no_year f = rw (sym ae ∙ f) f
-
-  module _ (at : a ≡ true) (b : Bool) (be : b ≡ within 1 12 d.month) where
-    pub no_month : b ≡ false → b ≡ is_date d
-    unfolding is_date
-    no_month f = rw (sym ae ∙ at, sym be ∙ f) f
-
-    module _ (bt : b ≡ true) where
-      pub month_in : (1 ≤ d.month) × (d.month ≤ 12)
-      month_in = within_true 1 12 d.month (sym be ∙ bt)
-
-      module _ (k : Bool) (ke : k ≡ is_day d.year d.month d.day) where
-        pub no_day : k ≡ false → k ≡ is_date d
-        unfolding is_date
-        no_day f = rw (sym ae ∙ at, sym be ∙ bt, sym ke ∙ f) f
-
-        pub all_but_clock : (t : Bool) → k ≡ true → t ≡ is_time d.hour d.minute d.second → t ≡ is_date d
-        unfolding is_date
-        all_but_clock t kt te = rw (sym ae ∙ at, sym be ∙ bt, sym ke ∙ kt) te

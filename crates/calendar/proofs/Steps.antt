@@ -2,29 +2,16 @@
 use mathlib.Core.Path.{◌≡◌, refl, ap, ◌∙◌, sym}
 use mathlib.Core.Bool.{Bool, true, false}
 use mathlib.Core.List.{List, [], ◌∷◌}
-use Prim.Native.Nat.{ℕ, zero, suc, ◌+◌, ◌*◌, ◌/◌, ◌%◌, ◌≤◌, ◌<◌}
+use Prim.Native.Nat.{ℕ, zero, suc, ◌+◌, ◌*◌, ◌/◌, ◌≤◌, ◌<◌}
 use native.Mathlib.Numerals.{add-one}
 use native.Mathlib.Omega.{arith}
-use borrow.Author.Tests.{lt-ltb, le-ltb, ltb-true, ltb-false, eq-eqb, ne_eqb}
-use lib.Dec.{ltb, eqb}
+use borrow.Author.Tests.{lt-ltb, le-ltb, ltb-true, ltb-false}
+use lib.Dec.{ltb}
 use lib.ListN.{take, get_or, length}
-use Rattle.calendar.specs.Calendar.{leap, days_of_years, month_lengths, lengths_of, summed}
+use Rattle.calendar.specs.Calendar.{days_of_years, month_lengths, lengths_of, summed}
 use Rattle.calendar.specs.Inner.{part, years_before}
 use Rattle.calendar.proofs.Parts.{part_at}
 use Rattle.calendar.proofs.Trip.{twelve}
-
--- ---- leap years
-pub leap_fourth : (y : ℕ) → y % 4 ≡ 0 → (y % 100 ≡ 0 → ⊥) → true ≡ leap y
-unfolding leap
-leap_fourth y p q = rw (eq-eqb _ _ p, ne_eqb (y % 100) 0 q)
-
-pub leap_hundred : (y : ℕ) → y % 4 ≡ 0 → y % 100 ≡ 0 → eqb (y % 400) 0 ≡ leap y
-unfolding leap
-leap_hundred y p q = rw (eq-eqb (y % 4) 0 p, eq-eqb (y % 100) 0 q)
-
-pub leap-none : (y : ℕ) → (y % 4 ≡ 0 → ⊥) → false ≡ leap y
-unfolding leap
-leap-none y p = rw (ne_eqb (y % 4) 0 p)
 
 -- ---- month_lengths
 pub february : (m : ℕ) → m ≡ 1 → ◌≡◌ {A = ℕ} 29 (get_or (lengths_of true) m 0)
@@ -94,6 +81,5 @@ year_small false = omega arith
 pub ahead_small : (l : Bool) (m : ℕ) → summed (take m (lengths_of l)) ≤ 366
 ahead_small l m = omega (arith, total_le (lengths_of l) m, year_small l)
 
-pub none_ahead : (l : Bool) → summed (take 0 (lengths_of l)) ≡ 0
-unfolding summed
-none_ahead l = refl
+pub with_next : (l : Bool) (m : ℕ) → m < 12 → summed (take m (lengths_of l)) + get_or (lengths_of l) m 0 ≤ 366
+with_next l m h = omega (arith, ahead_more l m h, ahead_small l (m + 1))

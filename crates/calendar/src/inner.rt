@@ -11,32 +11,27 @@ use crate::years::{days_of_years, is_leap, years_before};
 // How many seconds 1970 is after the first moment.
 const EPOCH: i64 = 62135596800;
 
-fn is_within(lo: u64, hi: u64, n: u64) -> bool
-    ensures { result ≡ within lo hi n }
+#[tactic(auto, unfolding(crate::specs::Calendar::is_day))]
+fn is_day(d: Date) -> bool
+    requires { (1 ≤ d.month) × (d.month ≤ 12) }
+    ensures { result ≡ is_day d.year d.month d.day }
 {
-    lo <= n && n <= hi
+    (1..=month_length(is_leap(d.year), (d.month - 1) as usize)).contains(&d.day)
 }
 
-fn is_day(year: u64, month: u64, day: u64) -> bool
-    requires { (1 ≤ month) × (month ≤ 12) }
-    ensures { result ≡ is_day year month day }
+#[tactic(auto, unfolding(crate::specs::Calendar::is_time))]
+fn is_time(d: Date) -> bool
+    ensures { result ≡ is_time d.hour d.minute d.second }
 {
-    is_within(1, month_length(is_leap(year), (month - 1) as usize), day)
-}
-
-fn is_time(hour: u64, minute: u64, second: u64) -> bool
-    ensures { result ≡ is_time hour minute second }
-{
-    hour < 24 && (minute < 60 && second < 60)
+    d.hour < 24 && d.minute < 60 && d.second < 60
 }
 
 // Whether the calendar has this date and time of day.
+#[tactic(auto, unfolding(crate::specs::Calendar::is_date))]
 pub fn is_date(d: Date) -> bool
     ensures { result ≡ is_date d }
 {
-    is_within(1, 9999, d.year)
-        && (is_within(1, 12, d.month)
-            && (is_day(d.year, d.month, d.day) && is_time(d.hour, d.minute, d.second)))
+    (1..=9999).contains(&d.year) && (1..=12).contains(&d.month) && is_day(d) && is_time(d)
 }
 
 fn moment_of(d: Date) -> u64

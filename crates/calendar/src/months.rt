@@ -13,6 +13,7 @@ pub struct Place {
     pub day: u64,
 }
 
+#[tactic(auto, using(crate::proofs::Steps::february, crate::proofs::Steps::other, crate::proofs::Steps::common))]
 pub fn month_length(leap: bool, m: usize) -> u64
     requires { m < 12 }
     ensures { result ≡ get_or (lengths_of leap) m 0 }
@@ -25,32 +26,34 @@ pub fn month_length(leap: bool, m: usize) -> u64
 }
 
 // The days before month m.
+#[tactic(auto, using(crate::proofs::Steps::ahead_more, crate::proofs::Steps::with_next), unfolding(crate::specs::Calendar::summed))]
 pub fn days_before_month(leap: bool, m: usize) -> u64
     requires { m < 12 }
     ensures { result ≡ summed (take m (lengths_of leap)) }
 {
-    let mut n: u64 = 0;
-    let mut i: usize = 0;
-    while i < m {
+    let mut n = 0;
+    for i in 0..m {
         n += month_length(leap, i);
-        i += 1;
     }
     n
 }
 
 // The month, and the day of it, that day d of a year is.
+#[tactic(auto, using(crate::proofs::Steps::ahead_more, crate::proofs::Steps::found), unfolding(crate::specs::Calendar::summed))]
 pub fn place_in(leap: bool, d: u64) -> Place
     requires { d < summed (lengths_of leap) }
     ensures { record { index = result.month; rest = result.day } ≡ part (lengths_of leap) d }
 {
-    let mut m: usize = 0;
-    let mut left = d;
-    while left >= month_length(leap, m) {
-        left -= month_length(leap, m);
-        m += 1;
+    let mut day = d;
+    for m in 0..12 {
+        let length = month_length(leap, m);
+        if day < length {
+            return Place {
+                month: m as u64,
+                day,
+            };
+        }
+        day -= length;
     }
-    Place {
-        month: m as u64,
-        day: left,
-    }
+    unreachable!()
 }
