@@ -1,5 +1,5 @@
 -- The cases of reasons, a part of the table in Cases.antt.
-use Rattle.std.specs.Prelude.{ℕ, ◌≡◌, [], ◌∷◌, ◌++◌, ltb, replicate, take}
+use Rattle.std.specs.Prelude.{ℕ, ◌≡◌, [], ◌∷◌, ◌++◌, ltb, replicate, take, None, Some}
 use Prim.Native.String.{String}
 use Rattle.told.specs.Told.{gave, refused}
 use Rattle.tracker.specs.declared.Seq.{Seq}
@@ -10,7 +10,6 @@ use Rattle.lookup.specs.declared.FindOption.TheVariants.{RoundUp, RoundDown}
 use Rattle.offers.specs.Whole.{Table}
 use Rattle.explaining.specs.Why.{why_ts, why_seq}
 use Rattle.explaining.specs.Laws.{Holds}
-use Rattle.explaining.specs.declared.Neighbour.TheVariants.{At, Missing}
 use Rattle.explaining.specs.declared.Reason.{Reason}
 use Rattle.explaining.specs.declared.Reason.TheVariants.{Exact, RoundedUp, RoundedDown, BeforeFirst, AfterLast, Empty}
 use Rattle.text.specs.Ascii.{ascii}
@@ -39,23 +38,23 @@ Prints line printed = why_text (ascii line ++ fifth 0x00 0x00) ≡ ascii printed
 pub record WhyCases : Type 0 where
   -- P8's table, (1,10),(3,30),(5,50): an equal key; between two; below the first; above the last
   pub exact : TsWhy eighth 3 RoundUp (Exact 1) (partner (second 30)) × TsWhy eighth 3 RoundDown (Exact 1) (partner (second 30))
-  pub between : TsWhy eighth 2 RoundUp (RoundedUp (At 0) 1) (partner (second 30)) × TsWhy eighth 2 RoundDown (RoundedDown 0 (At 1)) (partner (second 10))
-  pub below_first : TsWhy eighth 0 RoundUp (RoundedUp Missing 0) (partner (second 10)) × TsWhy eighth 0 RoundDown BeforeFirst nothing
-  pub above_last : TsWhy eighth 6 RoundUp AfterLast nothing × TsWhy eighth 6 RoundDown (RoundedDown 2 Missing) (partner (second 50))
+  pub between : TsWhy eighth 2 RoundUp (RoundedUp (Some 0) 1) (partner (second 30)) × TsWhy eighth 2 RoundDown (RoundedDown 0 (Some 1)) (partner (second 10))
+  pub below_first : TsWhy eighth 0 RoundUp (RoundedUp None 0) (partner (second 10)) × TsWhy eighth 0 RoundDown BeforeFirst nothing
+  pub above_last : TsWhy eighth 6 RoundUp AfterLast nothing × TsWhy eighth 6 RoundDown (RoundedDown 2 None) (partner (second 50))
   -- by second
-  pub by_second : SeqWhy eighth 20 RoundUp (RoundedUp (At 0) 1) (partner (seq_no 3)) × SeqWhy eighth 60 RoundUp AfterLast nothing × SeqWhy eighth 9 RoundDown BeforeFirst nothing
+  pub by_second : SeqWhy eighth 20 RoundUp (RoundedUp (Some 0) 1) (partner (seq_no 3)) × SeqWhy eighth 60 RoundUp AfterLast nothing × SeqWhy eighth 9 RoundDown BeforeFirst nothing
   -- table empty, whatever the rounding
   pub empty : TsWhy no_pairs 2 RoundUp Empty nothing × TsWhy no_pairs 2 RoundDown Empty nothing × SeqWhy no_pairs 20 RoundUp Empty nothing
   -- (1,10),(2,20),(3,20),(4,20),(5,30): of the equal seconds the lowest position up, the highest down; 21 lies between positions 3 and 4
   pub equals :
       SeqWhy equal_seconds 20 RoundUp (Exact 1) (partner (seq_no 2))
       × SeqWhy equal_seconds 20 RoundDown (Exact 3) (partner (seq_no 4))
-      × SeqWhy equal_seconds 21 RoundDown (RoundedDown 3 (At 4)) (partner (seq_no 4))
+      × SeqWhy equal_seconds 21 RoundDown (RoundedDown 3 (Some 4)) (partner (seq_no 4))
   -- what does not hold of P8's table and sequence 2 up: exact at a neighbour; neighbours with a kept pair between them; one neighbour where there are two; after the last; nor of sequence 0 up: before the first
   pub excluded :
       (Holds ltb 0 eighth.seqs 3 2 RoundUp (Exact 1) → ⊥)
-      × (Holds ltb 0 eighth.seqs 3 2 RoundUp (RoundedUp (At 0) 2) → ⊥)
-      × (Holds ltb 0 eighth.seqs 3 2 RoundUp (RoundedUp Missing 1) → ⊥)
+      × (Holds ltb 0 eighth.seqs 3 2 RoundUp (RoundedUp (Some 0) 2) → ⊥)
+      × (Holds ltb 0 eighth.seqs 3 2 RoundUp (RoundedUp None 1) → ⊥)
       × (Holds ltb 0 eighth.seqs 3 2 RoundUp AfterLast → ⊥)
       × (Holds ltb 0 eighth.seqs 3 0 RoundUp BeforeFirst → ⊥)
   -- a table whose arrays are not lent is refused with 14

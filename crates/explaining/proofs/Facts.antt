@@ -9,6 +9,7 @@ use native.Mathlib.Omega.{arith}
 use borrow.Author.Tests.{lt-ltb, le-ltb, ltb-true, ltb-false, eq-eqb, eqb-true, eqb-false, ne_eqb}
 use lib.Arith.{lt_of_le-ne}
 use lib.Dec.{ltb, eqb}
+use Rattle.std.specs.Prelude.{None, Some}
 use Rattle.order.specs.First.{first_from, last_or, first, final}
 use Rattle.order.specs.Order.{drops}
 use Rattle.order.specs.Inner.{NoneBelow}
@@ -25,7 +26,6 @@ use Rattle.lookup.proofs.Place.{in_words_lem}
 use Rattle.explaining.specs.Reason.{before, below, beside, some_equal, reason_of}
 use Rattle.explaining.specs.Laws.{EqualAt, Between, Holds, Parts, AllKeys, answer_by}
 use Rattle.explaining.specs.Inner.{answering}
-use Rattle.explaining.specs.declared.Neighbour.TheVariants.{At, Missing}
 use Rattle.explaining.specs.declared.Reason.{Reason}
 use Rattle.explaining.specs.declared.Reason.TheVariants.{Exact, RoundedUp, RoundedDown, BeforeFirst, AfterLast, Empty}
 use Rattle.explaining.proofs.Parts.{equal-reason, parts-reason, parts-place, parts-between, parts_first, parts_last, parted}
@@ -44,14 +44,14 @@ module _ {K : Type 0} (lt : K → K → Bool) (O : Order lt) (d : K) (keys : Lis
 
   -- ---- what holds is the reason that the rule gives
 
-  up-between : (b a : ℕ) → Between lt d keys n x b a → beside RoundUp a n ≡ RoundedUp (At b) a
+  up-between : (b a : ℕ) → Between lt d keys n x b a → beside RoundUp a n ≡ RoundedUp (Some b) a
   up-between b a B =
       let e = B.adjacent in
       let w = B.within in
       let f : a - 1 ≡ b = omega arith in
       rw (ne_eqb a n (λ z. omega arith), ne_eqb a 0 (λ z. omega arith), f)
 
-  down-between : (b a : ℕ) → Between lt d keys n x b a → beside RoundDown a n ≡ RoundedDown b (At a)
+  down-between : (b a : ℕ) → Between lt d keys n x b a → beside RoundDown a n ≡ RoundedDown b (Some a)
   down-between b a B =
       let e = B.adjacent in
       let w = B.within in
@@ -60,17 +60,17 @@ module _ {K : Type 0} (lt : K → K → Bool) (O : Order lt) (d : K) (keys : Lis
 
   pub holds_is : (opt : FindOption) (r : Reason) → Holds lt d keys n x opt r → reason_of lt d opt keys n x ≡ r
   holds_is opt (Exact p) E = equal-reason lt O d keys n x p E.within E.equals opt ∙ ap Exact (place-of-equal opt p E)
-  holds_is opt (RoundedUp (At b) a) h =
+  holds_is opt (RoundedUp (Some b) a) h =
       let w = h.1.within in
       rw h.0 (parts-reason lt O d keys n x a (parts-between lt O d keys n x sorted b a h.1) (omega arith) RoundUp ∙ up-between b a h.1)
-  holds_is opt (RoundedUp Missing a) h =
+  holds_is opt (RoundedUp None a) h =
       let e = h.1.first_one in
       let w = h.1.within in
       rw (h.0, e) (parts-reason lt O d keys n x 0 (parts_first lt O d keys n x sorted a h.1) (omega arith) RoundUp ∙ rw (ne_eqb 0 n (λ z. omega arith)))
-  holds_is opt (RoundedDown b (At a)) h =
+  holds_is opt (RoundedDown b (Some a)) h =
       let w = h.1.within in
       rw h.0 (parts-reason lt O d keys n x a (parts-between lt O d keys n x sorted b a h.1) (omega arith) RoundDown ∙ down-between b a h.1)
-  holds_is opt (RoundedDown b Missing) h =
+  holds_is opt (RoundedDown b None) h =
       let e = h.1.last_one in
       let f : n - 1 ≡ b = omega arith in
       rw h.0 (parts-reason lt O d keys n x n (parts_last lt O d keys n x sorted b h.1) (omega arith) RoundDown ∙ rw (ne_eqb n 0 (λ z. omega arith), le-ltb n n (le_refl n), f))
@@ -103,7 +103,7 @@ module _ {K : Type 0} (lt : K → K → Bool) (O : Order lt) (d : K) (keys : Lis
       w : p ≤ n
       w = P.within
 
-      up : (b : Bool) → eqb p 0 ≡ b → p < n → Holds lt d keys n x RoundUp (RoundedUp (cond b Missing (At (p - 1))) p)
+      up : (b : Bool) → eqb p 0 ≡ b → p < n → Holds lt d keys n x RoundUp (RoundedUp (cond b None (Some (p - 1))) p)
       up true e l = (refl, record { first_one = eqb-true p 0 e; within = l; key_above = P.over p (le_refl p) l })
       up false e l =
           let s : 0 < p = pos_of_ne-zero (eqb-false p 0 e) in
@@ -119,7 +119,7 @@ module _ {K : Type 0} (lt : K → K → Bool) (O : Order lt) (d : K) (keys : Lis
       w : p ≤ n
       w = P.within
 
-      down : (b : Bool) → ltb p n ≡ b → 0 < p → Holds lt d keys n x RoundDown (RoundedDown (p - 1) (cond b (At p) Missing))
+      down : (b : Bool) → ltb p n ≡ b → 0 < p → Holds lt d keys n x RoundDown (RoundedDown (p - 1) (cond b (Some p) None))
       down true e s =
           let l = ltb-true p n e in
           (refl, record { adjacent = omega arith; within = l; key_below = P.under (p - 1) (omega arith); key_above = P.over p (le_refl p) l })
@@ -147,10 +147,10 @@ module _ {K : Type 0} (lt : K → K → Bool) (O : Order lt) (d : K) (keys : Lis
 
   pub all_stand : (opt : FindOption) (r : Reason) → Holds lt d keys n x opt r → AllKeys lt d keys n x r
   all_stand opt (Exact p) E = E.equals
-  all_stand opt (RoundedUp (At b) a) h = parts-between lt O d keys n x sorted b a h.1
-  all_stand opt (RoundedUp Missing a) h = rw h.1.first_one (parts_first lt O d keys n x sorted a h.1)
-  all_stand opt (RoundedDown b (At a)) h = rw (← h.1.adjacent) (parts-between lt O d keys n x sorted b a h.1)
-  all_stand opt (RoundedDown b Missing) h = rw h.1.last_one (parts_last lt O d keys n x sorted b h.1)
+  all_stand opt (RoundedUp (Some b) a) h = parts-between lt O d keys n x sorted b a h.1
+  all_stand opt (RoundedUp None a) h = rw h.1.first_one (parts_first lt O d keys n x sorted a h.1)
+  all_stand opt (RoundedDown b (Some a)) h = rw (← h.1.adjacent) (parts-between lt O d keys n x sorted b a h.1)
+  all_stand opt (RoundedDown b None) h = rw h.1.last_one (parts_last lt O d keys n x sorted b h.1)
   all_stand opt BeforeFirst h = parts_first lt O d keys n x sorted 0 h.1
   all_stand opt AfterLast h = parts_last lt O d keys n x sorted (n - 1) h.1
   all_stand opt Empty h = h
@@ -183,13 +183,13 @@ module _ {K : Type 0} (lt : K → K → Bool) (O : Order lt) (d : K) (keys : Lis
 
     pub stands_by : (opt : FindOption) (r : Reason) → Holds lt d keys n x opt r → standing at n (answering r n) ≡ answer_by at r
     stands_by opt (Exact p) E = found p E.within
-    stands_by opt (RoundedUp (At b) a) h = found a h.1.within
-    stands_by opt (RoundedUp Missing a) h = found a h.1.within
-    stands_by opt (RoundedDown b (At a)) h =
+    stands_by opt (RoundedUp (Some b) a) h = found a h.1.within
+    stands_by opt (RoundedUp None a) h = found a h.1.within
+    stands_by opt (RoundedDown b (Some a)) h =
         let e = h.1.adjacent in
         let w = h.1.within in
         found b (omega arith)
-    stands_by opt (RoundedDown b Missing) h =
+    stands_by opt (RoundedDown b None) h =
         let e = h.1.last_one in
         found b (omega arith)
     stands_by opt BeforeFirst h = none_found

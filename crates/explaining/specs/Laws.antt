@@ -1,5 +1,5 @@
 -- What holds of every reason: the facts that it names, in terms of the keys at positions. Proved in proofs/Laws.antt.
-use Rattle.std.specs.Prelude.{ℕ, suc, ◌-◌, ◌≤◌, ◌<◌, ◌≡◌, ◌↔◌, Bool, true, List, ltb, ℤ, pos}
+use Rattle.std.specs.Prelude.{ℕ, suc, ◌-◌, ◌≤◌, ◌<◌, ◌≡◌, ◌↔◌, Bool, true, List, ltb, ℤ, pos, None, Some}
 use Rattle.std.specs.Int.Signed.{lt_z}
 use Rattle.told.specs.Told.{Told, gave, refused}
 use Rattle.search.specs.Keys.{smaller, greater}
@@ -12,7 +12,6 @@ use Rattle.lookup.specs.Laws.{equal, SameKept}
 use Rattle.lookup.specs.declared.FindOption.{FindOption}
 use Rattle.lookup.specs.declared.FindOption.TheVariants.{RoundUp, RoundDown}
 use Rattle.explaining.specs.Why.{Why, why_ts, why_seq}
-use Rattle.explaining.specs.declared.Neighbour.TheVariants.{At, Missing}
 use Rattle.explaining.specs.declared.Reason.{Reason}
 use Rattle.explaining.specs.declared.Reason.TheVariants.{Exact, RoundedUp, RoundedDown, BeforeFirst, AfterLast, Empty}
 
@@ -50,10 +49,10 @@ module _ {K : Type 0} (lt : K → K → Bool) (d : K) (keys : List K) (n : ℕ) 
   -- the facts that a reason names, of a question with this rounding
   abbrev pub Holds : FindOption → Reason → Type 0
   Holds opt (Exact p) = EqualAt opt p
-  Holds opt (RoundedUp (At below) above) = (opt ≡ RoundUp) × Between below above
-  Holds opt (RoundedUp Missing above) = (opt ≡ RoundUp) × BelowFirst above
-  Holds opt (RoundedDown below (At above)) = (opt ≡ RoundDown) × Between below above
-  Holds opt (RoundedDown below Missing) = (opt ≡ RoundDown) × AboveLast below
+  Holds opt (RoundedUp (Some below) above) = (opt ≡ RoundUp) × Between below above
+  Holds opt (RoundedUp None above) = (opt ≡ RoundUp) × BelowFirst above
+  Holds opt (RoundedDown below (Some above)) = (opt ≡ RoundDown) × Between below above
+  Holds opt (RoundedDown below None) = (opt ≡ RoundDown) × AboveLast below
   Holds opt BeforeFirst = (opt ≡ RoundDown) × BelowFirst 0
   Holds opt AfterLast = (opt ≡ RoundUp) × AboveLast (n - 1)
   Holds opt Empty = n ≡ 0

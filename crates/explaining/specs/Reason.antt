@@ -1,23 +1,21 @@
 -- Why a question is answered as it is (docs/RULES.md, "Why this answer"): the reason, with the positions that it names.
-use Rattle.std.specs.Prelude.{ℕ, ◌-◌, Bool, cond, List, ltb, eqb}
+use Rattle.std.specs.Prelude.{ℕ, ◌-◌, Bool, cond, List, ltb, eqb, None, Some, Option}
 use Rattle.order.specs.First.{first}
 use Rattle.search.specs.Keys.{greater}
 use Rattle.lookup.specs.Find.{place}
 use Rattle.lookup.specs.Laws.{equal}
 use Rattle.lookup.specs.declared.FindOption.{FindOption}
 use Rattle.lookup.specs.declared.FindOption.TheVariants.{RoundUp, RoundDown}
-use Rattle.explaining.specs.declared.Neighbour.{Neighbour}
-use Rattle.explaining.specs.declared.Neighbour.TheVariants.{At, Missing}
 use Rattle.explaining.specs.declared.Reason.{Reason}
 use Rattle.explaining.specs.declared.Reason.TheVariants.{Exact, RoundedUp, RoundedDown, BeforeFirst, AfterLast, Empty}
 
 -- the position before p, where there is one
-abbrev pub before : ℕ → Neighbour
-before p = cond (eqb p 0) Missing (At (p - 1))
+abbrev pub before : ℕ → Option ℕ
+before p = cond (eqb p 0) None (Some (p - 1))
 
 -- p, where it is a position below n
-abbrev pub below : ℕ → ℕ → Neighbour
-below p n = cond (ltb p n) (At p) Missing
+abbrev pub below : ℕ → ℕ → Option ℕ
+below p n = cond (ltb p n) (Some p) None
 
 -- no key equals, and p is the position of the first greater one, or n: RoundUp answers at p, after the last there is none;
 -- RoundDown at the position before it, before the first there is none

@@ -1,19 +1,18 @@
 -- The reason beside the answer: what `why_ts` and `why_seq` tell.
-use Rattle.std.specs.Prelude.{ℕ, List, ltb, ℤ, pos}
+use Rattle.std.specs.Prelude.{ℕ, List, ltb, ℤ, pos, Result, Ok, Err}
 use Rattle.std.specs.Int.Signed.{lt_z}
 use Rattle.told.specs.Told.{Told, gave, refused}
 use Rattle.tracker.specs.Refusal.{told}
+use Rattle.tracker.specs.declared.Refusal.{Refusal}
 use Rattle.tracker.specs.declared.Seq.{Seq}
 use Rattle.tracker.specs.declared.Second.{Second}
 use Rattle.tracker.specs.declared.SequenceTracker.{SequenceTracker}
-use Rattle.lookup.specs.Find.{Partner, partner, nothing, find_ts, find_seq}
+use Rattle.lookup.specs.Find.{Partner, find_ts, find_seq}
 use Rattle.lookup.specs.declared.FindOption.{FindOption}
+use Rattle.lookup.specs.Found.{partner_of}
 use Rattle.explaining.specs.Reason.{reason_of}
 use Rattle.explaining.specs.declared.Reason.{Reason}
-use Rattle.explaining.specs.declared.WhyTs.{WhyTs}
-use Rattle.explaining.specs.declared.WhyTs.TheVariants as ts
-use Rattle.explaining.specs.declared.WhySeq.{WhySeq}
-use Rattle.explaining.specs.declared.WhySeq.TheVariants as seq
+use Rattle.explaining.specs.declared.Why as answered
 
 -- a reason, and the answer under it
 pub record Why (A : Type 0) : Type 0 where
@@ -34,12 +33,12 @@ abbrev pub why_seq : SequenceTracker → List ℕ → List ℤ → Second → Fi
 why_seq table seqs secs ts opt = because (reason_of lt_z (pos 0) opt secs table.count ts.0) (find_seq table seqs secs ts opt)
 
 -- what their answers tell
-abbrev pub told_why_ts : WhyTs → Told (Why Second)
-told_why_ts (ts.Answered r s) = gave (record { reason = r; answer = partner s })
-told_why_ts (ts.Nothing r) = gave (record { reason = r; answer = nothing })
-told_why_ts (ts.Refused why) = refused (told why)
+abbrev pub told_why : {A : Type 0} → Result (answered.Why A) Refusal → Told (Why A)
+told_why (Ok w) = gave (record { reason = w.reason; answer = partner_of w.answer })
+told_why (Err r) = refused (told r)
 
-abbrev pub told_why_seq : WhySeq → Told (Why Seq)
-told_why_seq (seq.Answered r q) = gave (record { reason = r; answer = partner q })
-told_why_seq (seq.Nothing r) = gave (record { reason = r; answer = nothing })
-told_why_seq (seq.Refused why) = refused (told why)
+abbrev pub told_why_ts : Result (answered.Why Second) Refusal → Told (Why Second)
+told_why_ts = told_why
+
+abbrev pub told_why_seq : Result (answered.Why Seq) Refusal → Told (Why Seq)
+told_why_seq = told_why

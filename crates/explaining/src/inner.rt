@@ -3,32 +3,24 @@ ghost use Rattle.std.specs.Prelude.{◌≡◌};
 ghost use Rattle.explaining.specs.Reason as rules;
 ghost use Rattle.explaining.specs.Inner as own;
 
-use crate::{Neighbour, Reason};
+use crate::Reason;
 use lookup::FindOption;
 
 pub mod secs; // secs.rt: among seconds
 pub mod seqs; // seqs.rt: among sequences
 
 // The position before p, where there is one.
-fn before(p: usize) -> Neighbour
+fn before(p: usize) -> Option<usize>
     ensures { result ≡ rules.before p }
 {
-    if p == 0 {
-        Neighbour::Missing
-    } else {
-        Neighbour::At(p - 1)
-    }
+    if p == 0 { None } else { Some(p - 1) }
 }
 
 // p, where it is a position below n.
-fn below(p: usize, n: usize) -> Neighbour
+fn below(p: usize, n: usize) -> Option<usize>
     ensures { result ≡ rules.below p n }
 {
-    if p < n {
-        Neighbour::At(p)
-    } else {
-        Neighbour::Missing
-    }
+    if p < n { Some(p) } else { None }
 }
 
 // Where no key equals, and p is the position of the first greater one, or n.

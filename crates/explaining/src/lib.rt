@@ -9,22 +9,15 @@ use tracker::{Refusal, Second, Seq, SequenceTracker, check};
 
 pub mod inner; // inner.rt: the reason in a table that is checked
 
-// A position next to the one that answers, where there is one.
-#[derive(Clone, Copy)]
-pub enum Neighbour {
-    At(usize),
-    Missing,
-}
-
 // Why a question is answered as it is. A position is one among the kept pairs.
 #[derive(Clone, Copy)]
 pub enum Reason {
     // a key equals the one asked for: the position that answers
     Exact(usize),
-    // none equals, and the first greater key answers: the position below it, and its own
-    RoundedUp(Neighbour, usize),
-    // none equals, and the last smaller key answers: its own position, and the one above it
-    RoundedDown(usize, Neighbour),
+    // none equals, and the first greater key answers: the position below it, where there is one, and its own
+    RoundedUp(Option<usize>, usize),
+    // none equals, and the last smaller key answers: its own position, and the one above it, where there is one
+    RoundedDown(usize, Option<usize>),
     // rounding down, each key is greater
     BeforeFirst,
     // rounding up, each key is smaller
@@ -33,18 +26,11 @@ pub enum Reason {
     Empty,
 }
 
+// A reason, and the answer under it.
 #[derive(Clone, Copy)]
-pub enum WhyTs {
-    Answered(Reason, Second),
-    Nothing(Reason),
-    Refused(Refusal),
-}
-
-#[derive(Clone, Copy)]
-pub enum WhySeq {
-    Answered(Reason, Seq),
-    Nothing(Reason),
-    Refused(Refusal),
+pub struct Why<A> {
+    pub reason: Reason,
+    pub answer: Option<A>,
 }
 
 // The second for a sequence number, and why that one.
@@ -54,24 +40,15 @@ pub fn why_ts(
     secs: &[i64],
     seq: Seq,
     find_opt: FindOption,
-) -> WhyTs
+) -> Result<Why<Second>, Refusal>
     ensures { told_why_ts result ≡ why_ts table seqs.now secs.now seq find_opt }
 {
-    let checked = check(table, seqs, secs);
-    match checked {
-        Ok(()) => {
-            let n = table.count;
-            let reason = inner::seqs::reason(seqs, n, seq, find_opt);
-            let at = inner::answering(reason, n);
-            if at < n {
-                let second = secs[at];
-                WhyTs::Answered(reason, Second(second))
-            } else {
-                WhyTs::Nothing(reason)
-            }
-        }
-        Err(why) => WhyTs::Refused(why),
-    }
+    check(table, seqs, secs)?;
+    let n = table.count;
+    let reason = inner::seqs::reason(seqs, n, seq, find_opt);
+    let at = inner::answering(reason, n);
+    let answer = if at < n { Some(Second(secs[at])) } else { None };
+    Ok(Why { reason, answer })
 }
 
 // The sequence number for a second, and why that one. Any second may be asked for.
@@ -81,22 +58,13 @@ pub fn why_seq(
     secs: &[i64],
     ts: Second,
     find_opt: FindOption,
-) -> WhySeq
+) -> Result<Why<Seq>, Refusal>
     ensures { told_why_seq result ≡ why_seq table seqs.now secs.now ts find_opt }
 {
-    let checked = check(table, seqs, secs);
-    match checked {
-        Ok(()) => {
-            let n = table.count;
-            let reason = inner::secs::reason(secs, n, ts, find_opt);
-            let at = inner::answering(reason, n);
-            if at < n {
-                let sequence = seqs[at];
-                WhySeq::Answered(reason, Seq(sequence))
-            } else {
-                WhySeq::Nothing(reason)
-            }
-        }
-        Err(why) => WhySeq::Refused(why),
-    }
+    check(table, seqs, secs)?;
+    let n = table.count;
+    let reason = inner::secs::reason(secs, n, ts, find_opt);
+    let at = inner::answering(reason, n);
+    let answer = if at < n { Some(Seq(seqs[at])) } else { None };
+    Ok(Why { reason, answer })
 }

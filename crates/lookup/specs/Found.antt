@@ -7,9 +7,12 @@ use Rattle.tracker.specs.declared.Seq.{Seq}
 use Rattle.tracker.specs.declared.Second.{Second}
 use Rattle.lookup.specs.Find.{Partner, partner, nothing}
 
+abbrev pub partner_of : {A : Type 0} → Option A → Partner A
+partner_of (Some a) = partner a
+partner_of None = nothing
+
 abbrev pub told_found : {A : Type 0} → Result (Option A) Refusal → Told (Partner A)
-told_found (Ok (Some a)) = gave (partner a)
-told_found (Ok None) = gave nothing
+told_found (Ok found) = gave (partner_of found)
 told_found (Err r) = refused (told r)
 
 -- what `find_ts` tells

@@ -11,12 +11,12 @@ use Rattle.explaining.specs.Inner.{answering}
 use Rattle.explaining.proofs.Facts.{answering-place}
 use Rattle.explaining.proofs.Told.{told-partner, told-nothing}
 use Rattle.explaining.proofs.why_seq.Goals as goal
-use Rattle.explaining.proofs.why_seq.Goals.{After-answering-at, In-Ok}
+use Rattle.explaining.proofs.why_seq.Goals.{After-answering-at, In_ok-check}
 
-is_good : (c : In-Ok) → let a = c.args in check_of a.table a.seqs.now a.secs.now ≡ gave tt
-is_good c = sym c.check-checked.ensures ∙ ap told_check c.in-Ok.is
+is_good : (c : In_ok-check) → let a = c.args in check_of a.table a.seqs.now a.secs.now ≡ gave tt
+is_good c = sym c.check.ensures ∙ ap told_check c.in_ok-check.was
 
-ok : (c : In-Ok) → let a = c.args in Fine a.table a.seqs.now a.secs.now
+ok : (c : In_ok-check) → let a = c.args in Fine a.table a.seqs.now a.secs.now
 ok c =
     let a = c.args in
     fine a.table a.seqs.now a.secs.now (is_good c)
@@ -34,9 +34,9 @@ there c good =
 pub returns-then-at-n : goal.returns-then-at-n
 returns-then-at-n c =
     let a = c.args in
-    told-partner (check_of a.table a.seqs.now a.secs.now) (is_good (goal.at.returns-then-at-n c).In-Ok) (seq_at a.seqs.now) a.table.count _ c.answering-at.result (there (goal.at.returns-then-at-n c).After-answering-at (ok (goal.at.returns-then-at-n c).In-Ok)) _ c.reason-reason.result c.reason-reason.ensures c.if-at-n.true
+    told-partner (check_of a.table a.seqs.now a.secs.now) (is_good (goal.at.returns-then-at-n c).In_ok-check) (seq_at a.seqs.now) a.table.count _ c.answering-at.result (there (goal.at.returns-then-at-n c).After-answering-at (ok (goal.at.returns-then-at-n c).In_ok-check)) _ c.reason-reason.result c.reason-reason.ensures c.if-at-n.true
 
 pub returns-else-at-n : goal.returns-else-at-n
 returns-else-at-n c =
     let a = c.args in
-    told-nothing (check_of a.table a.seqs.now a.secs.now) (is_good (goal.at.returns-else-at-n c).In-Ok) (seq_at a.seqs.now) a.table.count _ c.answering-at.result (there (goal.at.returns-else-at-n c).After-answering-at (ok (goal.at.returns-else-at-n c).In-Ok)) _ c.reason-reason.result c.reason-reason.ensures c.if-at-n.false
+    told-nothing (check_of a.table a.seqs.now a.secs.now) (is_good (goal.at.returns-else-at-n c).In_ok-check) (seq_at a.seqs.now) a.table.count _ c.answering-at.result (there (goal.at.returns-else-at-n c).After-answering-at (ok (goal.at.returns-else-at-n c).In_ok-check)) _ c.reason-reason.result c.reason-reason.ensures c.if-at-n.false
