@@ -18,11 +18,7 @@ pub fn month_length(leap: bool, m: usize) -> u64
     requires { m < 12 }
     ensures { result ≡ get_or (lengths_of leap) m 0 }
 {
-    if leap {
-        if m == 1 { 29 } else { MONTH_LENGTHS[m] }
-    } else {
-        MONTH_LENGTHS[m]
-    }
+    if leap && m == 1 { 29 } else { MONTH_LENGTHS[m] }
 }
 
 // The days before month m.

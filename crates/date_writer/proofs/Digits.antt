@@ -30,7 +30,7 @@ unfolding lengths_of
 days_31 true m = bounded (lengths_of true) 31 m (omega arith)
 days_31 false m = bounded (lengths_of false) 31 m (omega arith)
 
-pub valid_digits : (d : Date) → Valid d → Digits d.year d.month d.day d.hour d.minute d.second
+pub valid_digits : (d : Date) → Valid d → Digits d
 valid_digits d v = (
   omega (arith, v.year),
   omega (arith, v.month),
@@ -40,8 +40,5 @@ valid_digits d v = (
   omega (arith, v.time.2),
 )
 
-abbrev DigitsOf : Date → Type 0
-DigitsOf d = Digits d.year d.month d.day d.hour d.minute d.second
-
-pub digits_of : (z : ℤ) → outside z ≡ false → DigitsOf (date_of (moment_at z))
+pub digits_of : (z : ℤ) → outside z ≡ false → Digits (date_of (moment_at z))
 digits_of z h = valid_digits (date_of (moment_at z)) (date_valid (moment_at z) (moment_below z h))

@@ -1,60 +1,57 @@
 // The text of a second, by value and put into a lent buffer.
-ghost use Rattle.std.specs.Prelude.{◌≡◌, false, ◌+◌, ◌≤◌, length};
+ghost use Rattle.std.specs.Prelude.{◌≡◌, false, ◌+◌, ◌<◌, ◌≤◌, length};
 ghost use Rattle.limits.specs.Domain.{outside};
 ghost use Rattle.text.specs.Inner.{Put};
-ghost use Rattle.date_writer.specs.DateText.{text_of};
+ghost use Rattle.date_writer.specs.DateText.{two, text_of};
 ghost use Rattle.date_writer.specs.Inner.{Digits, date_text};
 
+use calendar::Date;
 use calendar::inner::date_of;
 use text::inner::put_bytes;
 
 // How many bytes a date has.
 pub const DATE_BYTES: usize = 20;
 
-// Each digit by its place: a date has no number of other than two or four digits.
-fn text_of(year: u64, month: u64, day: u64, hour: u64, minute: u64, second: u64) -> [u8; DATE_BYTES]
-    requires { Digits year month day hour minute second }
-    ensures { result ≡ text_of (record { year = year; month = month; day = day; hour = hour; minute = minute; second = second }) }
+// A number in two digits.
+fn two(n: u64) -> [u8; 2]
+    requires { n < 100 }
+    ensures { result ≡ two n }
 {
+    [b'0' + (n / 10) as u8, b'0' + (n % 10) as u8]
+}
+
+// Each digit by its place: a date has no number of other than two or four digits.
+#[tactic(auto, unfolding(crate::specs::DateText::text_of))]
+fn text_of(d: Date) -> [u8; DATE_BYTES]
+    requires { Digits d }
+    ensures { result ≡ text_of d }
+{
+    let [y0, y1] = two(d.year / 100);
+    let [y2, y3] = two(d.year % 100);
+    let [m0, m1] = two(d.month);
+    let [d0, d1] = two(d.day);
+    let [h0, h1] = two(d.hour);
+    let [t0, t1] = two(d.minute);
+    let [s0, s1] = two(d.second);
     [
-        b'0' + (year / 100 / 10) as u8,
-        b'0' + (year / 100 % 10) as u8,
-        b'0' + (year % 100 / 10) as u8,
-        b'0' + (year % 100 % 10) as u8,
-        b'-',
-        b'0' + (month / 10) as u8,
-        b'0' + (month % 10) as u8,
-        b'-',
-        b'0' + (day / 10) as u8,
-        b'0' + (day % 10) as u8,
-        b'T',
-        b'0' + (hour / 10) as u8,
-        b'0' + (hour % 10) as u8,
-        b':',
-        b'0' + (minute / 10) as u8,
-        b'0' + (minute % 10) as u8,
-        b':',
-        b'0' + (second / 10) as u8,
-        b'0' + (second % 10) as u8,
-        b'Z',
+        y0, y1, y2, y3, b'-', m0, m1, b'-', d0, d1, b'T', h0, h1, b':', t0, t1, b':', s0, s1, b'Z',
     ]
 }
 
 // The text of a second of the domain.
+#[tactic(auto, using(crate::proofs::Digits::digits_of))]
 fn date_text(s: i64) -> [u8; DATE_BYTES]
     requires { outside s ≡ false }
     ensures { result ≡ date_text s }
 {
-    let d = date_of(s);
-    text_of(d.year, d.month, d.day, d.hour, d.minute, d.second)
+    text_of(date_of(s))
 }
 
 // Puts that text into `out` from `at` on, and answers the place after it.
 pub fn put_date(out: &mut [u8], at: usize, s: i64) -> usize
-    requires s_value { outside s ≡ false }
-    requires at_in_bounds { at + 20 ≤ length out.old }
+    requires in_domain { outside s ≡ false }
+    requires room { at + 20 ≤ length out.old }
     ensures { Put out.old at (date_text s) out.new result }
 {
-    let text = date_text(s);
-    put_bytes(out, at, &text)
+    put_bytes(out, at, &date_text(s))
 }

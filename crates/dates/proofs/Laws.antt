@@ -40,7 +40,7 @@ use Rattle.dates.specs.Laws.{Says, Dates}
 abbrev utc : Zone
 utc = record { ahead = true; hours = 0; minutes = 0 }
 
-text_read : (d : Date) → Digits d.year d.month d.day d.hour d.minute d.second → date_time (text_of d) ≡ read (record { date = d; zone = utc }) []
+text_read : (d : Date) → Digits d → date_time (text_of d) ≡ read (record { date = d; zone = utc }) []
 unfolding date_time text_of either fraction offset end
 text_read d h =
     then_read _ (four-read d.year (from_month d) h.0)
