@@ -8,22 +8,21 @@ use Rattle.told.specs.Told.{Told, gave, refused}
 use Rattle.text.specs.Text.{decimal, signed_decimal}
 use Rattle.text.proofs.Numbers.{decimal-length, signed-length}
 use Rattle.report.specs.Listing.{number_of}
-use Rattle.report.proofs.Answers.{refused-length}
+use Rattle.report.proofs.Lengths.{refused-length}
 use Rattle.tracker.specs.declared.SequenceTracker.{SequenceTracker}
 use Rattle.lookup.specs.Find.{Partner, partner, nothing}
 use Rattle.question_lines.specs.declared.Question.{Question}
 use Rattle.question_lines.specs.declared.Question.TheVariants.{BySeq, ByTime}
 use Rattle.explaining.specs.Why.{Why, why_ts, why_seq}
-use Rattle.explaining.specs.declared.Neighbour.{Neighbour}
-use Rattle.explaining.specs.declared.Neighbour.TheVariants.{At, Missing}
+use Rattle.std.specs.Prelude.{Option, Some, None}
 use Rattle.explaining.specs.declared.Reason.{Reason}
 use Rattle.explaining.specs.declared.Reason.TheVariants.{Exact, RoundedUp, RoundedDown, BeforeFirst, AfterLast, Empty}
 use Rattle.why_text.specs.Words.{neighbour_text, reason_text, answer_text}
 use Rattle.why_text.specs.Text.{told_text, asked_text, restored_text, restored_from, seqs_from, secs_from, image_text}
 
-pub neighbour_length : (p : Neighbour) → length (neighbour_text p) ≤ 20
-neighbour_length (At p) = decimal-length p
-neighbour_length Missing = omega arith
+pub neighbour_length : (p : Option ℕ) → length (neighbour_text p) ≤ 20
+neighbour_length (Some p) = decimal-length p
+neighbour_length None = omega arith
 
 pub reason-length : (r : Reason) → length (reason_text r) ≤ 64
 reason-length (Exact p) = simp length-append (omega (arith, decimal-length p))
@@ -34,7 +33,7 @@ reason-length AfterLast = omega arith
 reason-length Empty = omega arith
 
 module _ {A : Type 0} (number : A → List ℕ) (short : (a : A) → length (number a) ≤ 21) where
-  answer-length : (a : Partner A) → length (answer_text number a) ≤ 21
+  pub answer-length : (a : Partner A) → length (answer_text number a) ≤ 21
   answer-length (partner a) = short a
   answer-length nothing = omega arith
 

@@ -2,30 +2,32 @@
 ghost use Rattle.std.specs.Prelude.{◌+◌, ◌≤◌, ◌++◌, length};
 ghost use Rattle.text.specs.Ascii.{ascii};
 ghost use Rattle.text.specs.Inner.{Put};
-ghost use Rattle.text.specs.Text.{decimal, signed_decimal};
-ghost use Rattle.explaining.specs.Why.{told_why_ts, told_why_seq};
-ghost use Rattle.why_text.specs.Words.{neighbour_text, reason_text};
+ghost use Rattle.text.specs.Text.{decimal};
+ghost use Rattle.explaining.specs.Why.{told_why};
+ghost use Rattle.why_text.specs.Words.{neighbour_text, reason_text, answer_text, why_line};
+ghost use Rattle.lookup.specs.Found.{partner_of};
 ghost use Rattle.why_text.specs.Text.{told_text};
 
-use crate::number::table_number;
-use explaining::{Neighbour, Reason, WhySeq, WhyTs};
+use crate::TEXT_ROOM;
+use crate::answer::Answer;
+use explaining::{Reason, Why};
 use report::inner::put_refused;
-use text::inner::{put_byte, put_bytes, put_decimal, put_signed};
+use text::inner::{put_byte, put_bytes, put_decimal};
+use tracker::Refusal;
 
-// 20 bytes at most.
-fn put_neighbour(out: &mut [u8], at: usize, neighbour: Neighbour) -> usize
-    requires { at + 20 ≤ length out.old }
-    ensures { Put out.old at (neighbour_text neighbour) out.new result }
+// A number of 21 bytes at most, or `none`.
+fn put_answer<A: Answer>(out: &mut [u8], at: usize, answer: Option<A>) -> usize
+    requires { at + 21 ≤ length out.old }
+    ensures { Put out.old at (answer_text A.number (partner_of answer)) out.new result }
 {
-    match neighbour {
-        Neighbour::At(p) => put_decimal(out, at, p as u64),
-        Neighbour::Missing => put_bytes(out, at, b"none"),
+    match answer {
+        Some(a) => a.put(out, at),
+        None => put_bytes(out, at, b"none"),
     }
 }
 
 // 26 bytes at most.
-fn put_exact(out: &mut [u8], p: usize) -> usize
-    requires { 128 ≤ length out.old }
+fn put_exact(out: &mut [u8; TEXT_ROOM], p: usize) -> usize
     ensures { Put out.old 0 (ascii "exact " ++ decimal p) out.new result }
 {
     let a = put_bytes(out, 0, b"exact ");
@@ -33,29 +35,26 @@ fn put_exact(out: &mut [u8], p: usize) -> usize
 }
 
 // 52 bytes at most.
-fn put_rounded_up(out: &mut [u8], below: Neighbour, above: usize) -> usize
-    requires { 128 ≤ length out.old }
+fn put_rounded_up(out: &mut [u8; TEXT_ROOM], below: Option<usize>, above: usize) -> usize
     ensures { Put out.old 0 (ascii "rounded-up " ++ neighbour_text below ++ ascii " " ++ decimal above) out.new result }
 {
     let a = put_bytes(out, 0, b"rounded-up ");
-    let b = put_neighbour(out, a, below);
+    let b = put_answer(out, a, below);
     let c = put_byte(out, b, b' ');
     put_decimal(out, c, above as u64)
 }
 
 // 54 bytes at most.
-fn put_rounded_down(out: &mut [u8], below: usize, above: Neighbour) -> usize
-    requires { 128 ≤ length out.old }
+fn put_rounded_down(out: &mut [u8; TEXT_ROOM], below: usize, above: Option<usize>) -> usize
     ensures { Put out.old 0 (ascii "rounded-down " ++ decimal below ++ ascii " " ++ neighbour_text above) out.new result }
 {
     let a = put_bytes(out, 0, b"rounded-down ");
     let b = put_decimal(out, a, below as u64);
     let c = put_byte(out, b, b' ');
-    put_neighbour(out, c, above)
+    put_answer(out, c, above)
 }
 
-fn put_reason(out: &mut [u8], reason: Reason) -> usize
-    requires { 128 ≤ length out.old }
+fn put_reason(out: &mut [u8; TEXT_ROOM], reason: Reason) -> usize
     ensures { Put out.old 0 (reason_text reason) out.new result }
 {
     match reason {
@@ -68,55 +67,21 @@ fn put_reason(out: &mut [u8], reason: Reason) -> usize
     }
 }
 
-// A second under its reason.
-fn put_second(out: &mut [u8], reason: Reason, s: i64) -> usize
-    requires { 128 ≤ length out.old }
-    ensures { Put out.old 0 (reason_text reason ++ ascii " " ++ signed_decimal s ++ ascii "\n") out.new result }
+// The line of an answer under its reason.
+fn put_line<A: Answer>(out: &mut [u8; TEXT_ROOM], why: Why<A>) -> usize
+    ensures { Put out.old 0 (why_line A.number (record { reason = why.reason; answer = partner_of why.answer })) out.new result }
 {
-    let a = put_reason(out, reason);
+    let a = put_reason(out, why.reason);
     let b = put_byte(out, a, b' ');
-    let c = put_signed(out, b, s);
+    let c = put_answer(out, b, why.answer);
     put_byte(out, c, b'\n')
 }
 
-// A sequence under its reason.
-fn put_seq(out: &mut [u8], reason: Reason, q: u64) -> usize
-    requires { 128 ≤ length out.old }
-    ensures { Put out.old 0 (reason_text reason ++ ascii " " ++ decimal q ++ ascii "\n") out.new result }
-{
-    let a = put_reason(out, reason);
-    let b = put_byte(out, a, b' ');
-    let c = put_decimal(out, b, q);
-    put_byte(out, c, b'\n')
-}
-
-// Nothing, under its reason.
-fn put_none(out: &mut [u8], reason: Reason) -> usize
-    requires { 128 ≤ length out.old }
-    ensures { Put out.old 0 (reason_text reason ++ ascii " " ++ ascii "none" ++ ascii "\n") out.new result }
-{
-    let a = put_reason(out, reason);
-    put_bytes(out, a, b" none\n")
-}
-
-pub fn put_why_ts(out: &mut [u8], why: WhyTs) -> usize
-    requires { 128 ≤ length out.old }
-    ensures { Put out.old 0 (told_text (λ s. signed_decimal s.0) (told_why_ts why)) out.new result }
+pub fn put_why<A: Answer>(out: &mut [u8; TEXT_ROOM], why: Result<Why<A>, Refusal>) -> usize
+    ensures { Put out.old 0 (told_text A.number (told_why why)) out.new result }
 {
     match why {
-        WhyTs::Answered(reason, s) => put_second(out, reason, s.0),
-        WhyTs::Nothing(reason) => put_none(out, reason),
-        WhyTs::Refused(refusal) => put_refused(out, table_number(refusal)),
-    }
-}
-
-pub fn put_why_seq(out: &mut [u8], why: WhySeq) -> usize
-    requires { 128 ≤ length out.old }
-    ensures { Put out.old 0 (told_text (λ q. decimal q.0) (told_why_seq why)) out.new result }
-{
-    match why {
-        WhySeq::Answered(reason, q) => put_seq(out, reason, q.0),
-        WhySeq::Nothing(reason) => put_none(out, reason),
-        WhySeq::Refused(refusal) => put_refused(out, table_number(refusal)),
+        Ok(why) => put_line(out, why),
+        Err(refusal) => put_refused(out, refusal.number()),
     }
 }

@@ -1,6 +1,7 @@
 use native.Mathlib.Nat.{le_trans}
 use native.Mathlib.Omega.{arith}
-use Rattle.report.proofs.Answers.{whole, refused-length}
+use Rattle.report.proofs.Answers.{whole}
+use Rattle.report.proofs.Lengths.{refused-length}
 use Rattle.why_text.proofs.Lengths.{image_length}
 use Rattle.why_text.proofs.Rule.{asked_text_lem, unasked_text, too_long_lem}
 use Rattle.why_text.proofs.why.Goals as goal
