@@ -1,2 +1,3 @@
 // For our own crates.
-pub use crate::refusals::{answer, dating, encoding, of_table, reading};
+pub use crate::given::Bits;
+pub use crate::refusals::of_table_and;

@@ -2,6 +2,7 @@
 // call gives or the refusal also tells. Here are the answer and the refusals; `call_answers` and `table_answers` have each call's.
 #![tactic(auto)]
 
+mod given; // given.rt: what a call gives as an answer, and what is that or a refusal
 pub mod inner; // inner.rt: what our own crates call
 mod refusals; // refusals.rt: an answer, and a refusal as one
 

@@ -1,35 +1,43 @@
-// A refusal's number, and what it also tells.
-ghost use Rattle.std.specs.Prelude.{◌≡◌};
+// A refusal as an answer: its number, and what it also tells.
+ghost use Rattle.std.specs.Prelude.{◌≡◌, [], ◌∷◌, ◌++◌};
 ghost use Rattle.gorilla.specs.Array.{array_no};
+ghost use Rattle.bits.specs.Read.{read_refused};
+ghost use Rattle.bits.specs.Write.{write_refused};
 ghost use Rattle.code_reader.specs.Refusal as reader;
 ghost use Rattle.encoder.specs.Encode as encoding;
 ghost use Rattle.tracker.specs.Refusal as table;
 ghost use Rattle.dates.specs.Refusal as dating;
+ghost use Rattle.questions.specs.Asked as questions;
+ghost use Rattle.saving.specs.Save as saves;
+ghost use Rattle.restoring.specs.Restore as restores;
 ghost use Rattle.answers.specs.Answer.{answer_of};
 
 use crate::Answer;
-use bits::Place;
+use bits::{Place, ReadRefusal, WriteRefusal};
 use gorilla::Array;
+use signed::WidthOutside;
 
-// The one function that makes an answer: 0 and what is given, or a number and what it also tells, with a place.
-fn answer_at(number: u32, a: u64, b: u64, c: u64, at: Place) -> Answer
-    ensures { result ≡ record { number = number; a = a; b = b; c = c; byte = at.byte; bit = at.bit } }
-{
-    Answer {
-        number: number,
-        a: a,
-        b: b,
-        c: c,
-        byte: at.byte as u64,
-        bit: at.bit as u64,
+impl Answer {
+    // The one function that makes an answer: 0 and what is given, or a number and what it also tells, with a place.
+    fn at(number: u32, a: u64, b: u64, c: u64, at: Place) -> Answer
+        ensures { result ≡ record { number = number; a = a; b = b; c = c; byte = at.byte; bit = at.bit } }
+    {
+        Answer {
+            number,
+            a,
+            b,
+            c,
+            byte: at.byte as u64,
+            bit: u64::from(at.bit),
+        }
     }
-}
 
-// One with no place.
-pub fn answer(number: u32, a: u64, b: u64, c: u64) -> Answer
-    ensures { result ≡ record { number = number; a = a; b = b; c = c; byte = 0; bit = 0 } }
-{
-    answer_at(number, a, b, c, Place { byte: 0, bit: 0 })
+    // One with no place.
+    pub fn telling(number: u32, a: u64, b: u64, c: u64) -> Answer
+        ensures { result ≡ record { number = number; a = a; b = b; c = c; byte = 0; bit = 0 } }
+    {
+        Answer::at(number, a, b, c, Place { byte: 0, bit: 0 })
+    }
 }
 
 fn array_no(array: Array) -> u64
@@ -42,65 +50,150 @@ fn array_no(array: Array) -> u64
 }
 
 // Of the readers.
-pub fn reading(why: decoder::Refusal) -> Answer
-    ensures { result ≡ answer_of (reader.told why) }
-{
-    match why {
-        decoder::Refusal::Empty => answer(1, 0, 0, 0),
-        decoder::Refusal::Version(byte) => answer(2, byte as u64, 0, 0),
-        decoder::Refusal::Header => answer(3, 0, 0, 0),
-        decoder::Refusal::CountCut(array, at) => answer_at(4, array_no(array), 0, 0, at),
-        decoder::Refusal::TooMany(array) => answer(10, array_no(array), 0, 0),
-        decoder::Refusal::FirstCut(array, at) => answer_at(5, array_no(array), 0, 0, at),
-        decoder::Refusal::CodeEnd(array, i, at) => {
-            answer_at(6, array_no(array), i as u64, 0, at)
+impl From<decoder::Refusal> for Answer {
+    ghost from_gives = { λ why answer. answer ≡ answer_of (reader.told why) };
+
+    fn from(why: decoder::Refusal) -> Answer {
+        match why {
+            decoder::Refusal::Empty => Answer::telling(1, 0, 0, 0),
+            decoder::Refusal::Version(byte) => Answer::telling(2, u64::from(byte), 0, 0),
+            decoder::Refusal::Header => Answer::telling(3, 0, 0, 0),
+            decoder::Refusal::CountCut(array, at) => Answer::at(4, array_no(array), 0, 0, at),
+            decoder::Refusal::TooMany(array) => Answer::telling(10, array_no(array), 0, 0),
+            decoder::Refusal::FirstCut(array, at) => Answer::at(5, array_no(array), 0, 0, at),
+            decoder::Refusal::CodeEnd(array, i, at) => {
+                Answer::at(6, array_no(array), i as u64, 0, at)
+            }
+            decoder::Refusal::PrefixCut(array, i, at) => {
+                Answer::at(7, array_no(array), i as u64, 0, at)
+            }
+            decoder::Refusal::DiffCut(array, i, width, at) => {
+                Answer::at(8, array_no(array), i as u64, u64::from(width), at)
+            }
+            decoder::Refusal::CountDiffers(array) => Answer::telling(9, array_no(array), 0, 0),
         }
-        decoder::Refusal::PrefixCut(array, i, at) => {
-            answer_at(7, array_no(array), i as u64, 0, at)
-        }
-        decoder::Refusal::DiffCut(array, i, width, at) => {
-            answer_at(8, array_no(array), i as u64, width as u64, at)
-        }
-        decoder::Refusal::CountDiffers(array) => answer(9, array_no(array), 0, 0),
     }
 }
 
 // Of the encoders.
-pub fn encoding(why: encoder::Refusal) -> Answer
-    ensures { result ≡ answer_of (encoding.told why) }
-{
-    match why {
-        encoder::Refusal::LengthsDiffer => answer(18, 0, 0, 0),
-        encoder::Refusal::TooMany => answer(19, 0, 0, 0),
-        encoder::Refusal::Wide(array, i) => answer(20, array_no(array), i as u64, 0),
-        encoder::Refusal::Room(bytes) => answer(21, bytes as u64, 0, 0),
+impl From<encoder::Refusal> for Answer {
+    ghost from_gives = { λ why answer. answer ≡ answer_of (encoding.told why) };
+
+    fn from(why: encoder::Refusal) -> Answer {
+        match why {
+            encoder::Refusal::LengthsDiffer => Answer::telling(18, 0, 0, 0),
+            encoder::Refusal::TooMany => Answer::telling(19, 0, 0, 0),
+            encoder::Refusal::Wide(array, i) => Answer::telling(20, array_no(array), i as u64, 0),
+            encoder::Refusal::Room(bytes) => Answer::telling(21, bytes as u64, 0, 0),
+        }
     }
 }
 
 // Of a table's calls.
-pub fn of_table(why: tracker::Refusal) -> Answer
-    ensures { result ≡ answer_of (table.told why) }
+impl From<tracker::Refusal> for Answer {
+    ghost from_gives = { λ why answer. answer ≡ answer_of (table.told why) };
+
+    fn from(why: tracker::Refusal) -> Answer {
+        of_table_and(why, 0)
+    }
+}
+
+// With what is told after the refusal: a position, or which table it was.
+pub fn of_table_and(why: tracker::Refusal, last: u64) -> Answer
+    ensures { result ≡ answer_of (table.told why ++ (last ∷ [])) }
 {
     match why {
-        tracker::Refusal::Disagrees => answer(14, 0, 0, 0),
-        tracker::Refusal::SequenceDrops(i) => answer(11, i as u64, 0, 0),
-        tracker::Refusal::SecondDrops(i) => answer(12, i as u64, 0, 0),
-        tracker::Refusal::SecondOutside(i) => answer(13, i as u64, 0, 0),
-        tracker::Refusal::Settings => answer(15, 0, 0, 0),
-        tracker::Refusal::OfferedOutside => answer(16, 0, 0, 0),
-        tracker::Refusal::OfferedDrops => answer(17, 0, 0, 0),
-        tracker::Refusal::TotalsFull => answer(31, 0, 0, 0),
+        tracker::Refusal::Disagrees => Answer::telling(14, last, 0, 0),
+        tracker::Refusal::SequenceDrops(i) => Answer::telling(11, i as u64, last, 0),
+        tracker::Refusal::SecondDrops(i) => Answer::telling(12, i as u64, last, 0),
+        tracker::Refusal::SecondOutside(i) => Answer::telling(13, i as u64, last, 0),
+        tracker::Refusal::Settings => Answer::telling(15, last, 0, 0),
+        tracker::Refusal::OfferedOutside => Answer::telling(16, last, 0, 0),
+        tracker::Refusal::OfferedDrops => Answer::telling(17, last, 0, 0),
+        tracker::Refusal::TotalsFull => Answer::telling(31, last, 0, 0),
+    }
+}
+
+// Of sign extension.
+impl From<WidthOutside> for Answer {
+    ghost from_gives = { λ _ answer. answer ≡ answer_of (23 ∷ []) };
+
+    fn from(_: WidthOutside) -> Answer {
+        Answer::telling(23, 0, 0, 0)
     }
 }
 
 // Of dates.
-pub fn dating(why: dates::Refusal) -> Answer
-    ensures { result ≡ answer_of (dating.told why) }
-{
-    match why {
-        dates::Refusal::NotTheGrammar => answer(25, 0, 0, 0),
-        dates::Refusal::NoSuchTime => answer(26, 0, 0, 0),
-        dates::Refusal::Outside => answer(27, 0, 0, 0),
-        dates::Refusal::Room(bytes) => answer(21, bytes as u64, 0, 0),
+impl From<dates::Refusal> for Answer {
+    ghost from_gives = { λ why answer. answer ≡ answer_of (dating.told why) };
+
+    fn from(why: dates::Refusal) -> Answer {
+        match why {
+            dates::Refusal::NotTheGrammar => Answer::telling(25, 0, 0, 0),
+            dates::Refusal::NoSuchTime => Answer::telling(26, 0, 0, 0),
+            dates::Refusal::Outside => Answer::telling(27, 0, 0, 0),
+            dates::Refusal::Room(bytes) => Answer::telling(21, bytes as u64, 0, 0),
+        }
+    }
+}
+
+// Of bits that are read: 24 also tells the bits that are left.
+impl From<ReadRefusal> for Answer {
+    ghost from_gives = { λ why answer. answer ≡ answer_of (read_refused why) };
+
+    fn from(why: ReadRefusal) -> Answer {
+        match why {
+            ReadRefusal::Width => Answer::telling(23, 0, 0, 0),
+            ReadRefusal::Short(left) => Answer::telling(24, u64::from(left), 0, 0),
+        }
+    }
+}
+
+// Of bits that are written.
+impl From<WriteRefusal> for Answer {
+    ghost from_gives = { λ why answer. answer ≡ answer_of (write_refused why) };
+
+    fn from(why: WriteRefusal) -> Answer {
+        match why {
+            WriteRefusal::Width => Answer::telling(23, 0, 0, 0),
+            WriteRefusal::Short(bytes) => Answer::telling(21, bytes as u64, 0, 0),
+        }
+    }
+}
+
+// Of many questions.
+impl From<questions::Refusal> for Answer {
+    ghost from_gives = { λ why answer. answer ≡ answer_of (questions.told why) };
+
+    fn from(why: questions::Refusal) -> Answer {
+        match why {
+            questions::Refusal::TooMany => Answer::telling(35, 0, 0, 0),
+            questions::Refusal::LengthsDiffer => Answer::telling(18, 0, 0, 0),
+            questions::Refusal::Table(why) => why.into(),
+        }
+    }
+}
+
+// Of saving.
+impl From<saving::Refusal> for Answer {
+    ghost from_gives = { λ why answer. answer ≡ answer_of (saves.told_refusal why) };
+
+    fn from(why: saving::Refusal) -> Answer {
+        match why {
+            saving::Refusal::Table(why) => why.into(),
+            saving::Refusal::Encoder(why) => why.into(),
+        }
+    }
+}
+
+// Of restoring.
+impl From<restoring::Refusal> for Answer {
+    ghost from_gives = { λ why answer. answer ≡ answer_of (restores.told_refusal why) };
+
+    fn from(why: restoring::Refusal) -> Answer {
+        match why {
+            restoring::Refusal::Table(why) => why.into(),
+            restoring::Refusal::Decoder(why) => why.into(),
+        }
     }
 }
