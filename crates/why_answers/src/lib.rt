@@ -1,7 +1,7 @@
 // A lookup's answer and its reason as numbers, for programs in other languages. The exported calls stand in `skutlaneb`.
 #![tactic(auto)]
 
-pub mod inner; // inner.rt: the answers, for the exported calls
+mod why; // why.rt: such an answer, of what `why_ts` or `why_seq` tells
 
 use answers::Answer;
 
