@@ -20,15 +20,12 @@ pub fn calm<T: Stored>(values: &[T]) -> bool
     requires { length values.now ≤ 65536 }
     ensures { result ≡ true → (a : ℕ) → gave tt ≡ wide_in a (map T.as_z values.now) }
 {
-    let Some((first, rest)) = values.split_first() else {
+    let Some((_, rest)) = values.split_first() else {
         return true;
     };
-    let mut from = first.to_signed();
     let mut sum: u64 = 0;
-    for value in rest {
-        let to = value.to_signed();
-        sum += excess(to, from);
-        from = to;
+    for (i, to) in rest.iter().enumerate() {
+        sum += excess(to.to_signed(), values[i].to_signed());
     }
     sum == 0
 }
