@@ -12,10 +12,7 @@ fn write_header(out: &mut [u8], count: usize)
     ensures { out.new ≡ sets out.old 0 (1 ∷ le_bytes 4 count) }
 {
     out[0] = 1;
-    out[1] = (count % 256) as u8;
-    out[2] = (count / 256 % 256) as u8;
-    out[3] = (count / 256 / 256 % 256) as u8;
-    out[4] = (count / 256 / 256 / 256 % 256) as u8;
+    out[1..5].copy_from_slice(&count.to_le_bytes()[..4]);
 }
 
 // The image, into a buffer that holds it, and its length.
