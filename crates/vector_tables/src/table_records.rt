@@ -3,7 +3,7 @@ use offer_log::Logged;
 use offers::Offered;
 use tallies::Tally;
 use totals::Totals;
-use tracker::{Refusal, Second, Seq, SequenceTracker};
+use tracker::{Second, Seq, SequenceTracker};
 use vector_bodies::lists::{MOST, make, rule_of};
 use vector_bytes::Body;
 use vector_lists::{first, read_pairs};
@@ -19,30 +19,17 @@ pub struct Changed {
 // The interval of every table that slatedb restores. Ours is another by default, so it is named.
 const SLATEDB_INTERVAL_SECS: u64 = 60;
 
-fn number_of(why: Refusal) -> u8 {
-    match why {
-        Refusal::Disagrees => 14,
-        Refusal::SequenceDrops(_) => 11,
-        Refusal::SecondDrops(_) => 12,
-        Refusal::SecondOutside(_) => 13,
-        Refusal::Settings => 15,
-        Refusal::OfferedOutside => 16,
-        Refusal::OfferedDrops => 17,
-        Refusal::TotalsFull => 31,
-    }
-}
-
 // What became of offers: how many were recorded, went back and came too soon, and the number of the refusal of the one after them, if any.
 #[derive(Clone, Copy, PartialEq, Eq)]
 struct Outcome {
     recorded: usize,
     went_back: usize,
     too_soon: usize,
-    refused: Option<u8>,
+    refused: Option<u64>,
 }
 
 impl Outcome {
-    fn of(tally: Tally, refused: Option<u8>) -> Outcome {
+    fn of(tally: Tally, refused: Option<u64>) -> Outcome {
         Outcome {
             recorded: tally.recorded,
             went_back: tally.went_back,
@@ -52,7 +39,7 @@ impl Outcome {
     }
 
     // That of one offer, by the number that a record O has: 0 recorded, 1 went back, 2 too soon, else a refusal.
-    fn of_one(number: u8) -> Outcome {
+    fn of_one(number: u64) -> Outcome {
         Outcome {
             recorded: usize::from(number == 0),
             went_back: usize::from(number == 1),
@@ -73,7 +60,7 @@ impl Outcome {
 }
 
 // The table after offers, of which a record tells an outcome; before them it had these totals.
-fn changed(before: Totals, table: SequenceTracker, told: Outcome, came: Outcome) -> Changed {
+fn compared(before: Totals, table: SequenceTracker, told: Outcome, came: Outcome) -> Changed {
     Changed {
         table,
         agreed: (came == told) & told.grew_so(before, table.totals),
@@ -100,49 +87,56 @@ pub fn offered(
     secs: &mut [i64],
 ) -> Changed {
     let before = table.totals;
-    let (table, number) =
-        match offers::offer(table, seqs, secs, Seq(body.read()), Second(body.read())) {
-            Ok(Offered::Recorded(next)) => (next, 0),
-            Ok(Offered::WentBack(next)) => (next, 1),
-            Ok(Offered::TooSoon(next)) => (next, 2),
-            Ok(Offered::PairRefused { why, table }) => (table, number_of(why)),
-            Err(_) => {
-                return Changed {
-                    table,
-                    agreed: false,
-                };
-            }
-        };
-    let told = Outcome::of_one(body.read());
-    changed(before, table, told, Outcome::of_one(number))
+    let (table, number) = match offers::offer(
+        table,
+        seqs,
+        secs,
+        Seq(body.read()),
+        Second(body.read()),
+    ) {
+        Offered::Recorded(next) => (next, 0),
+        Offered::WentBack(next) => (next, 1),
+        Offered::TooSoon(next) => (next, 2),
+        Offered::PairRefused { why, table } => (table, why.number()),
+        Offered::Refused(_) => {
+            return Changed {
+                table,
+                agreed: false,
+            };
+        }
+    };
+    let told: u8 = body.read();
+    compared(
+        before,
+        table,
+        Outcome::of_one(told.into()),
+        Outcome::of_one(number),
+    )
 }
 
 // A list's outcome against what a record tells; a refusal has to be that of the offer after those that were counted.
-fn ran_so(
-    table: SequenceTracker,
-    logged: Result<Logged, offer_log::Refusal>,
-    told: Outcome,
-) -> Changed {
+fn ran_so(table: SequenceTracker, logged: Logged, told: Outcome) -> Changed {
     let before = table.totals;
     match logged {
-        Ok(Logged::Done { table, tally }) => {
-            changed(before, table, told, Outcome::of(tally, None))
-        }
-        Ok(Logged::Stopped {
+        Logged::Done { table, tally } => { compared(before, table, told, Outcome::of(tally, None)) }
+        Logged::Stopped {
             at,
             why,
             table,
             tally,
-        }) => {
-            let came = Outcome::of(tally, Some(number_of(why)));
-            let counted = tally.recorded.wrapping_add(tally.went_back).wrapping_add(tally.too_soon);
-            let done = changed(before, table, told, came);
+        } => {
+            let came = Outcome::of(tally, Some(why.number()));
+            let counted = tally
+                .recorded
+                .wrapping_add(tally.went_back)
+                .wrapping_add(tally.too_soon);
+            let done = compared(before, table, told, came);
             Changed {
                 table,
                 agreed: done.agreed & (at == counted),
             }
         }
-        Err(_) => Changed {
+        _ => Changed {
             table,
             agreed: false,
         },
@@ -150,8 +144,12 @@ fn ran_so(
 }
 
 // The number of a refusal, if any: 0 is none.
-fn refused(number: u8) -> Option<u8> {
-    if number == 0 { None } else { Some(number) }
+fn refused_by(number: u8) -> Option<u64> {
+    if number == 0 {
+        None
+    } else {
+        Some(number.into())
+    }
 }
 
 pub fn run(
@@ -178,7 +176,7 @@ pub fn run(
         recorded: recorded as usize,
         went_back: went_back as usize,
         too_soon: too_soon as usize,
-        refused: refused(body.read()),
+        refused: refused_by(body.read()),
     };
     ran_so(table, logged, told)
 }
@@ -211,14 +209,17 @@ pub fn extended(
         recorded: recorded.into(),
         went_back: went_back.into(),
         too_soon: too_soon.into(),
-        refused: refused(body.read()),
+        refused: refused_by(body.read()),
     };
     ran_so(table, logged, told)
 }
 
 // Whether no offer is counted yet.
 fn none_counted(totals: Totals) -> bool {
-    (totals.recorded == 0) & (totals.went_back == 0) & (totals.too_soon == 0) & (totals.refused == 0)
+    (totals.recorded == 0)
+        & (totals.went_back == 0)
+        & (totals.too_soon == 0)
+        & (totals.refused == 0)
 }
 
 pub fn restored(
@@ -236,7 +237,11 @@ pub fn restored(
     let (table, answered) = match restored {
         Ok(next) => (next, told.is_none() & none_counted(next.totals)),
         Err(restoring::Refusal::Table(why)) => {
-            let answered = told == Some(Told { number: number_of(why), tells: 0 });
+            let answered = told
+                == Some(Told {
+                    number: why.number(),
+                    tells: 0,
+                });
             (table, answered)
         }
         Err(restoring::Refusal::Decoder(why)) => (table, refused_so(why, told, stop)),

@@ -51,7 +51,7 @@ fn partner<T: Number>(mut body: Body<'_>, way: FindOption) -> Option<T> {
 }
 
 // Whether an answer to one of many questions is so: a mark of 1 and the partner, or 0 and 0 where there is none.
-fn marked_so<T: PartialEq + Default>(mark: u64, answer: T, want: Option<T>) -> bool {
+fn marked_so<T: Copy + PartialEq + Default>(mark: u64, answer: T, want: Option<T>) -> bool {
     match want {
         Some(partner) => (mark == 1) & (answer == partner),
         None => (mark == 0) & (answer == T::default()),
@@ -79,10 +79,19 @@ pub fn second_so(mut body: Body<'_>, table: SequenceTracker, seqs: &[u64], secs:
     let last = back.sheet.answers[15];
     let mut answers = [7i64; 1];
     let mut found = [7u8; 1];
-    question_lists::find_ts_each(table, seqs, secs, &[key], &mut answers, &mut found, way);
+    let listed = question_lists::find_ts_each(
+        table,
+        seqs,
+        secs,
+        &[key],
+        &mut answers,
+        &mut found,
+        way,
+    );
     alone.is_ok_and(|second| second.map(|s| s.0) == want)
         & why.is_ok_and(|why| why.answer.map(|s| s.0) == want)
         & marked_so(last.found, last.second.0, want)
+        & listed.is_ok()
         & marked_so(found[0].into(), answers[0], want)
 }
 
@@ -106,9 +115,18 @@ pub fn seq_so(mut body: Body<'_>, table: SequenceTracker, seqs: &[u64], secs: &[
     let last = back.sheet.answers[15];
     let mut answers = [7u64; 1];
     let mut found = [7u8; 1];
-    question_lists::find_seq_each(table, seqs, secs, &[key], &mut answers, &mut found, way);
+    let listed = question_lists::find_seq_each(
+        table,
+        seqs,
+        secs,
+        &[key],
+        &mut answers,
+        &mut found,
+        way,
+    );
     alone.is_ok_and(|seq| seq.map(|s| s.0) == want)
         & why.is_ok_and(|why| why.answer.map(|s| s.0) == want)
         & marked_so(last.found, last.seq.0, want)
+        & listed.is_ok()
         & marked_so(found[0].into(), answers[0], want)
 }
