@@ -17,6 +17,7 @@ struct Why;
 
 impl Program<TEXT_ROOM> for Why {
     const UNREAD: &'static str = "why: standard input";
+
     const UNWRITTEN: &'static str = "why: standard output";
 
     ghost prints = { Explaining };
