@@ -24,6 +24,7 @@ pub trait Program<const ROOM: usize> {
 }
 
 // Prints the first `size` bytes.
+// Stays: what may not change. docs/STATEMENTS.md states `print` of a buffer and a size, and `print_past_the_text` is an edit of what it requires of them.
 pub fn print<W: io::Write>(to: &mut W, text: &[u8], size: usize) -> io::Result<()>
     requires { size ≤ length text.now }
     ensures { OnOk result (Appends (W.contents to.old) (W.contents to.new) (take size text.now)) }
@@ -32,8 +33,7 @@ pub fn print<W: io::Write>(to: &mut W, text: &[u8], size: usize) -> io::Result<(
 }
 
 // Reports on standard error what failed, and why.
-pub fn report_failure(rt: &impl Eprint, what: &[u8], why: io::Error) {
-    let what = what.escape_ascii();
+pub fn report_failure(rt: &impl Eprint, what: &str, why: io::Error) {
     eprintln!(rt; "{what}: {why}").ok();
 }
 
@@ -78,7 +78,7 @@ pub fn run<P: Program<ROOM>, const ROOM: usize>(
         } else {
             P::UNWRITTEN
         };
-        report_failure(rt, what.as_bytes(), why);
+        report_failure(rt, what, why);
     }
     over
 }
