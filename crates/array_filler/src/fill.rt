@@ -20,18 +20,6 @@ pub struct Cursor {
 }
 
 impl Cursor {
-    // One value on, by a code that is there.
-    fn next(self, s: &[u8]) -> Cursor
-        requires { CanStep s.now self }
-        ensures { (a i : ℕ) → Stepped s.now a i self result }
-    {
-        if 0 < self.zeros {
-            self.coast()
-        } else {
-            self.step(s)
-        }
-    }
-
     // One value on, by a code of one zero bit that was found already.
     fn coast(self) -> Cursor
         requires { 0 < self.zeros }
@@ -89,7 +77,13 @@ pub fn fill<T: Stored>(s: &[u8], part: Stretch, out: &mut [T])
         },
     };
     for i in 1..part.count {
-        c = c.next(s);
+        // Stays: as one method that answers the next cursor this misses the bar "decode, regular" of docs/SPEED.md: 387,000
+        // instructions, and 215,000 where each branch sets the cursor.
+        if 0 < c.zeros {
+            c = c.coast();
+        } else {
+            c = c.step(s);
+        }
         out[i] = T::from_signed(c.track.prev);
     }
 }

@@ -15,6 +15,7 @@ pub fn scan(s: &[u8], at: Place, count: usize, array: Array) -> Result<Place, Re
 {
     let mut p = at;
     let mut i: usize = 1;
+    // Stays: no plainer as a `for`: a turn goes on by one code, or by all zero codes of a window.
     while i < count {
         let w = window_at(s, p);
         let z = zeros(w, count - i);

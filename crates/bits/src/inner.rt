@@ -1,4 +1,7 @@
 // The steps below the public calls, for our own crates. All but `settle` ask what their caller has tested.
+//
+// Stays: no plainer. `bit < 8` stands in five contracts, but a type of settled places would be a second `Place`: those who go on
+// from a place that a read gave (array_reader, array_filler, code_writer) would make one of it for one call of `after`.
 ghost use Rattle.std.specs.Prelude.{◌≡◌, ◌+◌, ◌-◌, ◌*◌, ◌/◌, ◌%◌, ◌^◌, ◌≤◌, ◌<◌};
 ghost use Rattle.bits.specs.Place.{place_of};
 ghost use Rattle.bits.specs.Inner.{Settled};

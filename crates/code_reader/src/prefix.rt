@@ -10,6 +10,7 @@ pub fn leading(w: Window) -> Result<usize, Cut>
     ensures { ReadsPrefix w result }
 {
     let mut n: usize = 0;
+    // Stays: a rule of the project: document 01, "How to write each place", has a loop that breaks with the number of ones.
     let ones = loop {
         if n == 4 {
             break n;

@@ -36,6 +36,7 @@ pub fn take_bits(s: &[u8], from: usize, first: u8, width: u8) -> u64
     let mut bit = first;
     let mut v: u64 = 0;
     let mut k: u8 = 0;
+    // Stays: no plainer as a `for`: a turn goes on by as many bits as the byte still has, and the last by those that are asked.
     while k < width {
         let t = (8 - bit).min(width - k);
         v = (v << t) + field(u64::from(s[byte]), 8 - (bit + t), t);
@@ -68,6 +69,7 @@ pub fn put_bits(buf: &mut [u8], from: usize, first: u8, value: u64, width: u8)
     buf[from] = x;
     let mut byte = from + 1;
     let mut left = width - t;
+    // Stays: no plainer as a `for`: `left` falls by eight while `byte` grows by one, and the last byte takes what `left` then is.
     while 8 <= left {
         left -= 8;
         let y = merge(0, 0, 8, field(value, left, 8));
