@@ -4,9 +4,9 @@ ghost use Rattle.limits.specs.Domain.{outside};
 ghost use Rattle.calendar.specs.Calendar.{moment_of, second_of, within, is_day, is_time, is_date};
 ghost use Rattle.calendar.specs.Inner.{Valid, date_of, moment_at};
 
-use crate::Date;
 use crate::months::{days_before_month, month_length, place_in};
 use crate::years::{days_of_years, is_leap, years_before};
+use crate::{Date, Inside};
 
 // How many seconds 1970 is after the first moment.
 const EPOCH: i64 = 62135596800;
@@ -71,9 +71,9 @@ fn date_at(n: u64) -> Date
 }
 
 // The date of a second of the domain.
-pub fn date_of(s: i64) -> Date
-    requires { outside s ≡ false }
-    ensures { result ≡ date_of (moment_at s) }
+#[tactic(auto, using(crate::proofs::Moments::sum_is, crate::proofs::Moments::sum_cast))]
+pub fn date_of(s: Inside) -> Date
+    ensures { result ≡ date_of (moment_at s.second) }
 {
-    date_at((s + EPOCH) as u64)
+    date_at((s.second + EPOCH) as u64)
 }

@@ -1,12 +1,11 @@
 // The text of a second, by value and put into a lent buffer.
-ghost use Rattle.std.specs.Prelude.{◌≡◌, false, ◌+◌, ◌<◌, ◌≤◌, length};
-ghost use Rattle.limits.specs.Domain.{outside};
+ghost use Rattle.std.specs.Prelude.{◌≡◌, ◌+◌, ◌<◌, ◌≤◌, length};
 ghost use Rattle.text.specs.Inner.{Put};
 ghost use Rattle.date_writer.specs.DateText.{two, text_of};
 ghost use Rattle.date_writer.specs.Inner.{Digits, date_text};
 
-use calendar::Date;
 use calendar::inner::date_of;
+use calendar::{Date, Inside};
 use text::inner::put_bytes;
 
 // How many bytes a date has.
@@ -40,18 +39,16 @@ fn text_of(d: Date) -> [u8; DATE_BYTES]
 
 // The text of a second of the domain.
 #[tactic(auto, using(crate::proofs::Digits::digits_of))]
-fn date_text(s: i64) -> [u8; DATE_BYTES]
-    requires { outside s ≡ false }
-    ensures { result ≡ date_text s }
+fn date_text(s: Inside) -> [u8; DATE_BYTES]
+    ensures { result ≡ date_text s.second }
 {
     text_of(date_of(s))
 }
 
 // Puts that text into `out` from `at` on, and answers the place after it.
-pub fn put_date(out: &mut [u8], at: usize, s: i64) -> usize
-    requires in_domain { outside s ≡ false }
-    requires room { at + 20 ≤ length out.old }
-    ensures { Put out.old at (date_text s) out.new result }
+pub fn put_date(out: &mut [u8], at: usize, s: Inside) -> usize
+    requires { at + 20 ≤ length out.old }
+    ensures { Put out.old at (date_text s.second) out.new result }
 {
     put_bytes(out, at, &date_text(s))
 }

@@ -11,10 +11,10 @@ ghost use Rattle.dates.specs.Write.{WritesDate};
 
 mod judging; // judging.rt: the second that a date-time says
 
+use calendar::Inside;
 use date_reader::inner::stamp_of;
 use date_writer::inner::{DATE_BYTES, put_date};
 use judging::judge;
-use limits::inner::out_of_domain;
 use tracker::Second;
 
 // Why a date is not written or read.
@@ -35,14 +35,11 @@ pub enum Refusal {
 pub fn write_date(second: Second, out: &mut [u8]) -> Result<usize, Refusal>
     ensures { WritesDate second.0 out.old result out.new }
 {
-    let s = second.0;
-    if out_of_domain(s) {
-        return Err(Refusal::Outside);
-    }
+    let second = Inside::of(second.0).ok_or(Refusal::Outside)?;
     if out.len() < DATE_BYTES {
         return Err(Refusal::Room(DATE_BYTES));
     }
-    Ok(put_date(out, 0, s))
+    Ok(put_date(out, 0, second))
 }
 
 // Reads the whole of `bytes` as one date-time. A fraction of a second is left out.

@@ -9,6 +9,7 @@ ghost use Rattle.report.specs.Dated.{some_outside};
 ghost use Rattle.report.specs.Inner.{NoneLacks};
 ghost use Rattle.report.specs.Thirds.{date-short, all-dated, none-lacking};
 
+use calendar::Inside;
 use date_writer::inner::put_date;
 use order::inner::first_outside;
 use text::inner::put_signed;
@@ -75,6 +76,6 @@ impl Third for Dates {
     }
 
     fn put(out: &mut [u8], at: usize, sec: i64) -> usize {
-        put_date(out, at, sec)
+        put_date(out, at, Inside { second: sec })
     }
 }

@@ -1,10 +1,9 @@
-use Rattle.std.proofs.Common.{◌≡◌, false, w64, to_z, of_z, rules}
-use Rattle.limits.specs.Domain.{outside}
+use Rattle.std.proofs.Common.{◌≡◌, rules}
 use Rattle.dates.proofs.Writing.{writes_there}
 use Rattle.dates.proofs.write_date.Goals as goal
 
 pub returns : goal.returns
 returns c =
-    let whole : to_z w64 (of_z w64 c.args.second.0) ≡ c.args.second.0 = search rules in
-    let inside : outside c.args.second.0 ≡ false = search rules in
-    writes_there _ _ inside c.if-out-lt-DATE_BYTES.false _ _ (rw whole at c.put_date.ensures)
+    let s = c.in_ok-second.second in
+    let same : s.second ≡ c.args.second.0 = search rules in
+    rw same at (writes_there s.second c.args.out.now s.in_domain c.if-out-lt-DATE_BYTES.false c.put_date.new.out c.put_date.result c.put_date.ensures)
