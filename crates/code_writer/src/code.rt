@@ -13,6 +13,7 @@ use gorilla::inner::row_of;
 use signed::inner::low_bits;
 
 // The low `width` bits of a value, and the place after them.
+#[tactic(auto, using(bit_lists::proofs::Lists::put_nat))]
 pub fn put(buf: &mut [u8], at: Place, value: u64, width: u8) -> Place
     requires { (at.bit < 8) × (width ≤ 64) × (at.byte * 8 + at.bit + width ≤ length buf.old * 8) }
     ensures place { result ≡ place_of (at.byte * 8 + at.bit + width) }

@@ -8,6 +8,7 @@ use crate::code::put;
 use bits::Place;
 
 // The count and the first value of an array.
+#[tactic(auto, using(crate::proofs::Head::head_put))]
 pub fn write_head(buf: &mut [u8], from: usize, count: usize, first: u64) -> Place
     requires { from * 8 + 96 ≤ length buf.old * 8 }
     ensures place { result ≡ place_of (from * 8 + 96) }
@@ -32,5 +33,5 @@ pub fn rounded(at: Place) -> usize
     requires { (at.byte < 2 ^ 63) × (at.bit < 8) }
     ensures { result ≡ byte_len (at.byte * 8 + at.bit) }
 {
-    at.byte + ((at.bit + 7) / 8) as usize
+    at.byte + usize::from(at.bit.div_ceil(8))
 }

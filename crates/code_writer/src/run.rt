@@ -21,9 +21,5 @@ pub fn take_run<T: Stored>(values: &[T], t: Track) -> Option<(Track, &[T])>
             return None;
         }
     }
-    let next = Track {
-        prev: v,
-        delta: t.delta,
-    };
-    Some((next, rest))
+    Some((Track { prev: v, ..t }, rest))
 }

@@ -55,10 +55,7 @@ pub fn row_of(dod: i64) -> Row
 pub fn is_strict(dod: i64) -> bool
     ensures { result ≡ strict dod }
 {
-    match dod {
-        -2147483648..=2147483647 => true,
-        _ => false,
-    }
+    i32::try_from(dod).is_ok()
 }
 
 // One value on, for the encoder: its difference of deltas.
@@ -68,11 +65,8 @@ pub fn advance(t: Track, val: i64) -> Coded
     let delta = signed::wrapping_sub(val, t.prev);
     let dod = signed::wrapping_sub(delta, t.delta);
     Coded {
-        dod: dod,
-        next: Track {
-            prev: val,
-            delta: delta,
-        },
+        dod,
+        next: Track { prev: val, delta },
     }
 }
 
@@ -83,7 +77,7 @@ pub fn follow(t: Track, dod: i64) -> Track
     let delta = signed::wrapping_add(t.delta, dod);
     Track {
         prev: signed::wrapping_add(t.prev, delta),
-        delta: delta,
+        delta,
     }
 }
 

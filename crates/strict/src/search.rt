@@ -1,5 +1,5 @@
 // The first difference of deltas outside -2^31..2^31-1.
-ghost use Rattle.std.specs.Prelude.{◌≡◌, ◌≤◌, map, length};
+ghost use Rattle.std.specs.Prelude.{◌≡◌, map};
 ghost use Rattle.gorilla.specs.Array.{array_no};
 ghost use Rattle.gorilla.specs.Wide.{wide_in, wide_of};
 ghost use Rattle.strict.specs.Inner.{found_wide};
@@ -29,7 +29,6 @@ fn search<T: Stored>(array: Array, values: &[T]) -> Option<(Array, usize)>
 
 // Among the values of one array, with no search where their deltas are small.
 fn first_wide_in<T: Stored>(array: Array, values: &[T]) -> Option<(Array, usize)>
-    requires { length values.now ≤ 65536 }
     ensures { found_wide result ≡ wide_in (array_no array) (map T.as_z values.now) }
 {
     if calm(values) {
@@ -40,7 +39,6 @@ fn first_wide_in<T: Stored>(array: Array, values: &[T]) -> Option<(Array, usize)
 
 // Sequences before seconds.
 pub fn first_wide(seqs: &[u64], secs: &[i64]) -> Option<(Array, usize)>
-    requires { (length seqs.now ≤ 65536) × (length secs.now ≤ 65536) }
     ensures { found_wide result ≡ wide_of seqs.now secs.now }
 {
     match first_wide_in(Array::Sequences, seqs) {

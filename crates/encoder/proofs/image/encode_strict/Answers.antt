@@ -1,4 +1,4 @@
-use Rattle.std.proofs.Common.{ℕ, ◌≡◌, List, length, ℤ, sym, ap, ◌∙◌, arith}
+use Rattle.std.proofs.Common.{ℕ, ◌≡◌, List, length, ℤ, sym, ap, ◌∙◌}
 use Rattle.std.proofs.lemmas.Result.{err_from_is_err_and}
 use Rattle.told.specs.Told.{Told, if_good}
 use Rattle.told.specs.Over.{filled}
@@ -22,11 +22,6 @@ returns-in_err-most c =
     let r = len_refused s t _ _ (if_good (wide_of s t) (room_rule (length (image_bytes s t)) (length out))) c.in_err-most.ensures in
     let e = err_from_is_err_and c.from_residual.result c.from_residual.ensures.1 in
     (rw (e.1, e.2) r, ap (λ (u : Told ℕ). filled u (image_bytes s t) out) r)
-
-pub first_wide-requires : goal.first_wide-requires
-first_wide-requires c =
-    let p = len_given c.args.seqs.now c.args.secs.now _ _ c.in_ok-most.ensures in
-    (p.few, omega (arith, p.same, p.few))
 
 pub returns-in-Some : goal.returns-in-Some
 returns-in-Some c =
