@@ -40,5 +40,5 @@ pub fn used_of(ones: usize) -> u8
     requires { ones ≤ 4 }
     ensures { result ≡ min (ones + 1) 4 }
 {
-    if ones < 4 { ones as u8 + 1 } else { 4 }
+    (ones as u8 + 1).min(4)
 }

@@ -34,11 +34,6 @@ pub fn rest<'a>(bytes: &'a [u8]) -> &'a [u8]
     ensures rest { result.now ≡ rest_rule bytes.now }
     ensures part { result.ref_ptr ≡ onwards bytes.entry.ref_ptr (rest_from bytes.now) }
 {
-    match image_len(bytes) {
-        Ok(n) => &bytes[n..],
-        Err(_) => {
-            let end = bytes.len();
-            &bytes[end..]
-        }
-    }
+    let start = image_len(bytes).unwrap_or(bytes.len());
+    &bytes[start..]
 }
