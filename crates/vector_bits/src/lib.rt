@@ -33,6 +33,7 @@ fn written_so(buf: &[u8], at: Place, body: Body<'_>) -> bool {
 
 pub fn writes(mut body: Body<'_>, tally: &mut Tally) {
     let n: u8 = body.read();
+    // Stays: there is no heap, so the buffer is an array of the most that a body has.
     let mut buf = [255u8; 4096];
     let written = write_each(&mut body, n, &mut buf);
     let agreed = match written {
@@ -54,8 +55,8 @@ fn read_so(read: Result<(u64, Place), ReadRefusal>, number: u8, value: u64) -> b
 
 // Each read through a reader and without one.
 pub fn reads(mut body: Body<'_>, tally: &mut Tally) {
-    let size: u8 = body.read();
-    let bytes = body.part(size.into());
+    let size = usize::from(body.read::<u8>());
+    let bytes = body.part(size);
     let n: u8 = body.read();
     let mut at = START;
     for _ in 0..n {

@@ -10,15 +10,15 @@ fn decoded_so(bytes: &[u8], told: Option<Told>, mut body: Body<'_>) -> bool {
         return unread_so(bytes, told, body);
     }
     body.part(2);
-    let n: u16 = body.read();
-    read_so(bytes, n.into(), |seqs, secs| values_so(body, seqs, secs))
+    let n = usize::from(body.read::<u16>());
+    read_so(bytes, n, |seqs, secs| values_so(body, seqs, secs))
 }
 
 pub fn image(mut body: Body<'_>, tally: &mut Tally) {
     let told = Told::read(&mut body);
     let over: u8 = body.read();
-    let size: u16 = body.read();
-    let bytes = body.part(size.into());
+    let size = usize::from(body.read::<u16>());
+    let bytes = body.part(size);
     let agreed = measured_so(bytes, told, body);
     if over == 0 {
         tally.note(Question::Lengths, agreed);

@@ -8,6 +8,7 @@ use vector_outcomes::read_so;
 use vector_tally::{Question, Tally};
 
 // Bytes that hold the image of every list that a rule makes: 36 bits a code.
+// Stays: there is no heap, so lists and images stand in arrays of the most that they may have, here and in the crates beside this one.
 const ROOM: usize = 147520;
 
 // The image that was written, which is empty where refusal 20 says that the list does not read back; of another refusal none.
@@ -20,10 +21,8 @@ fn image_of(written: Result<usize, Refusal>, out: &[u8]) -> Option<&[u8]> {
 }
 
 pub fn listed(mut body: Body<'_>, tally: &mut Tally) {
-    let n: u8 = body.read();
-    let n = usize::from(n);
-    let same: u8 = body.read();
-    let same = same == 1;
+    let n = usize::from(body.read::<u8>());
+    let same = body.read::<u8>() == 1;
     let listed = body;
     let mut seqs = [0u64; LISTED];
     let mut secs = [0i64; LISTED];
@@ -50,7 +49,7 @@ pub fn listed(mut body: Body<'_>, tally: &mut Tally) {
 
 pub fn ruled(mut body: Body<'_>, tally: &mut Tally) {
     let rule = rule_of(&mut body);
-    let same: u8 = body.read();
+    let same = body.read::<u8>() != 0;
     let imaged = body;
     body.part(12);
     let mut seqs = [0u64; MOST];
@@ -69,10 +68,10 @@ pub fn ruled(mut body: Body<'_>, tally: &mut Tally) {
     let mut strict = [0u8; ROOM];
     let firm = encoder::encode_strict(seqs, secs, &mut strict);
     let agreed = image_of(firm, &strict).is_some_and(|image| {
-        if same == 0 {
-            image.is_empty()
-        } else {
+        if same {
             image_so(imaged, image)
+        } else {
+            image.is_empty()
         }
     });
     tally.note(Question::Readbacks, agreed);

@@ -116,8 +116,7 @@ pub fn measured_so(bytes: &[u8], told: Option<Told>, mut body: Body<'_>) -> bool
     let left = decoder::rest(bytes).len();
     match decoder::image_len(bytes) {
         Ok(n) => {
-            let taken: u16 = body.read();
-            let taken = usize::from(taken);
+            let taken = usize::from(body.read::<u16>());
             told.is_none() & (n == taken) & (left.wrapping_add(taken) == bytes.len())
         }
         Err(why) => (left == 0) & refused_so(why, told, body),
@@ -125,6 +124,7 @@ pub fn measured_so(bytes: &[u8], told: Option<Told>, mut body: Body<'_>) -> bool
 }
 
 // Whether the list reader refuses so.
+// Stays: there is no heap, so the lists are read into arrays of the most that they may have.
 pub fn unread_so(bytes: &[u8], told: Option<Told>, body: Body<'_>) -> bool {
     let mut seqs = [0u64; 8192];
     let mut secs = [0i64; 8192];

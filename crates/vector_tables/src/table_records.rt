@@ -10,6 +10,7 @@ use vector_lists::{first, read_pairs};
 use vector_outcomes::{Told, refused_so};
 
 // The table after a record, and whether the record's answer was met.
+// Stays: the table goes on after an answer that differs, too, so it is no answer that the flag says to be there.
 #[derive(Clone, Copy)]
 pub struct Changed {
     pub table: SequenceTracker,
@@ -152,6 +153,7 @@ fn refused_by(number: u8) -> Option<u64> {
     }
 }
 
+// Stays, here and below: there is no heap, so the pairs stand in arrays of the most that there may be.
 pub fn run(
     mut body: Body<'_>,
     table: SequenceTracker,
@@ -191,8 +193,7 @@ pub fn extended(
     let mut from_secs = [0i64; 8192];
     let capacity: u32 = body.read();
     let interval_secs: u64 = body.read();
-    let n: u8 = body.read();
-    let count = usize::from(n);
+    let count = usize::from(body.read::<u8>());
     read_pairs(&mut body, count, &mut from_seqs, &mut from_secs);
     let other = SequenceTracker {
         count,

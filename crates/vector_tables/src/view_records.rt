@@ -9,12 +9,12 @@ use vector_bytes::{Body, Number};
 use vector_lists::first;
 
 // Bytes that hold the image of a full table.
+// Stays: there is no heap, so the image stands in an array of the most that it may have.
 const ROOM: usize = 73760;
 
 // The count, the last recorded second and the pairs.
 pub fn shown_so(mut body: Body<'_>, table: SequenceTracker, seqs: &[u64], secs: &[i64]) -> bool {
-    let n: u16 = body.read();
-    let n = usize::from(n);
+    let n = usize::from(body.read::<u16>());
     let recorded: u8 = body.read();
     let second: i64 = body.read();
     let last_so = match table.last_recorded_ts {
@@ -96,6 +96,7 @@ pub fn second_so(mut body: Body<'_>, table: SequenceTracker, seqs: &[u64], secs:
 }
 
 // The same of the sequence for a second.
+// Stays: the calls that are asked here are two of each kind, as C has them (find_ts, find_seq, ..); a trait over the two keys would name each of them in an impl, too.
 pub fn seq_so(mut body: Body<'_>, table: SequenceTracker, seqs: &[u64], secs: &[i64]) -> bool {
     let key: i64 = body.read();
     let way = way_of(body.read());

@@ -9,6 +9,7 @@ use running::inner::report_failure;
 use vector_lists::first;
 use vector_tally::Tally;
 
+// Stays: there is no heap, so the input and the table's pairs stand in arrays of the most that they may have.
 fn main(rt: HostRuntime) {
     let mut bytes = [0u8; stored::ROOM];
     let mut seqs = [0u64; 8192];
