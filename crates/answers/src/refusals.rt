@@ -40,6 +40,7 @@ impl Answer {
     }
 }
 
+// Stays: no `From`, since an impl for u64 of another crate's type may not stand here, and gorilla would have it for this one caller.
 fn array_no(array: Array) -> u64
     ensures { result ≡ array_no array }
 {
@@ -54,23 +55,22 @@ impl From<decoder::Refusal> for Answer {
     ghost from_gives = { λ why answer. answer ≡ answer_of (reader.told why) };
 
     fn from(why: decoder::Refusal) -> Answer {
+        let number = why.number() as u32;
         match why {
-            decoder::Refusal::Empty => Answer::telling(1, 0, 0, 0),
-            decoder::Refusal::Version(byte) => Answer::telling(2, u64::from(byte), 0, 0),
-            decoder::Refusal::Header => Answer::telling(3, 0, 0, 0),
-            decoder::Refusal::CountCut(array, at) => Answer::at(4, array_no(array), 0, 0, at),
-            decoder::Refusal::TooMany(array) => Answer::telling(10, array_no(array), 0, 0),
-            decoder::Refusal::FirstCut(array, at) => Answer::at(5, array_no(array), 0, 0, at),
-            decoder::Refusal::CodeEnd(array, i, at) => {
-                Answer::at(6, array_no(array), i as u64, 0, at)
+            decoder::Refusal::Empty | decoder::Refusal::Header => Answer::telling(number, 0, 0, 0),
+            decoder::Refusal::Version(byte) => Answer::telling(number, u64::from(byte), 0, 0),
+            decoder::Refusal::CountDiffers(array) | decoder::Refusal::TooMany(array) => {
+                Answer::telling(number, array_no(array), 0, 0)
             }
-            decoder::Refusal::PrefixCut(array, i, at) => {
-                Answer::at(7, array_no(array), i as u64, 0, at)
+            decoder::Refusal::CountCut(array, at) | decoder::Refusal::FirstCut(array, at) => {
+                Answer::at(number, array_no(array), 0, 0, at)
+            }
+            decoder::Refusal::CodeEnd(array, i, at) | decoder::Refusal::PrefixCut(array, i, at) => {
+                Answer::at(number, array_no(array), i as u64, 0, at)
             }
             decoder::Refusal::DiffCut(array, i, width, at) => {
-                Answer::at(8, array_no(array), i as u64, u64::from(width), at)
+                Answer::at(number, array_no(array), i as u64, u64::from(width), at)
             }
-            decoder::Refusal::CountDiffers(array) => Answer::telling(9, array_no(array), 0, 0),
         }
     }
 }
@@ -102,15 +102,16 @@ impl From<tracker::Refusal> for Answer {
 pub fn of_table_and(why: tracker::Refusal, last: u64) -> Answer
     ensures { result ≡ answer_of (table.told why ++ (last ∷ [])) }
 {
+    let number = why.number() as u32;
     match why {
-        tracker::Refusal::Disagrees => Answer::telling(14, last, 0, 0),
-        tracker::Refusal::SequenceDrops(i) => Answer::telling(11, i as u64, last, 0),
-        tracker::Refusal::SecondDrops(i) => Answer::telling(12, i as u64, last, 0),
-        tracker::Refusal::SecondOutside(i) => Answer::telling(13, i as u64, last, 0),
-        tracker::Refusal::Settings => Answer::telling(15, last, 0, 0),
-        tracker::Refusal::OfferedOutside => Answer::telling(16, last, 0, 0),
-        tracker::Refusal::OfferedDrops => Answer::telling(17, last, 0, 0),
-        tracker::Refusal::TotalsFull => Answer::telling(31, last, 0, 0),
+        tracker::Refusal::SequenceDrops(i)
+        | tracker::Refusal::SecondDrops(i)
+        | tracker::Refusal::SecondOutside(i) => Answer::telling(number, i as u64, last, 0),
+        tracker::Refusal::Disagrees
+        | tracker::Refusal::Settings
+        | tracker::Refusal::OfferedOutside
+        | tracker::Refusal::OfferedDrops
+        | tracker::Refusal::TotalsFull => Answer::telling(number, last, 0, 0),
     }
 }
 

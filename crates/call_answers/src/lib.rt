@@ -10,6 +10,7 @@ use answers::Answer;
 use sheets::{SeqSheet, SeqSheetBack, TsSheet, TsSheetBack};
 
 // The sheet comes back with the answers to its used questions, or, refused, as it went in.
+// Stays: two structs: the C interface; no struct with a type parameter may stand in the signature of an exported function.
 #[repr(C)]
 #[derive(Clone, Copy)]
 pub struct TsSheetAnswer {
