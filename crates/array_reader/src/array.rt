@@ -1,4 +1,7 @@
 // One array of an image, looked over with no value kept.
+//
+// Stays: no plainer. A struct of the bytes and of which array it is would be made for one call of each function, and each contract
+// then says `self.s.now` and `self.array`.
 ghost use Rattle.std.specs.Prelude.{◌≡◌, ◌≤◌, length};
 ghost use Rattle.bits.specs.Place.{pos_of};
 ghost use Rattle.bit_lists.specs.BitList.{byte_len};

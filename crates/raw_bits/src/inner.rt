@@ -1,4 +1,7 @@
 // The steps. Each asks what its caller has tested.
+//
+// Stays: no plainer. `from` and `first` of take_bits and put_bits are a `Place` of the crate bits, whose bit may be above 7: here it
+// would need the clause that it is not, as well.
 ghost use Rattle.std.specs.Prelude.{◌≡◌, ◌+◌, ◌*◌, ◌-◌, ◌/◌, ◌%◌, ◌^◌, ◌≤◌, ◌<◌, min, length};
 ghost use Rattle.raw_bits.specs.Inner.{bits_at, put_bits};
 
