@@ -69,11 +69,11 @@ module _ (n : ℕ) (h : n < 315537897600) where
   seen = rw (to_z_pos w64 {n = n} (omega arith))
 
   -- the difference as the code computes it, through the bits
-  pub sub-fits : SFits w64 (to_z w64 n -ℤ pos 62135596800)
-  sub-fits = rw seen second_fits
+  pub sub_fits : SFits w64 (to_z w64 n -ℤ pos 62135596800)
+  sub_fits = rw seen second_fits
 
   pub sub_is : to_z w64 (of_z w64 (to_z w64 n -ℤ pos 62135596800)) ≡ second_at n
-  sub_is = to_z-of_z sub-fits ∙ seen
+  sub_is = to_z-of_z sub_fits ∙ seen
 
 -- the sum as the code computes it
 module _ (z : ℤ) (f : SFits w64 z) (h : outside z ≡ false) where

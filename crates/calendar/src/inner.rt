@@ -34,6 +34,7 @@ pub fn is_date(d: Date) -> bool
     (1..=9999).contains(&d.year) && (1..=12).contains(&d.month) && is_day(d) && is_time(d)
 }
 
+#[tactic(auto, using(crate::proofs::Calls::m_small))]
 fn moment_of(d: Date) -> u64
     requires { Valid d }
     ensures { result ≡ moment_of d }
@@ -45,6 +46,7 @@ fn moment_of(d: Date) -> u64
 }
 
 // The second of a date.
+#[tactic(auto, using(crate::proofs::Moments::valid_means, crate::proofs::Moments::sub_fits, crate::proofs::Moments::sub_is, crate::proofs::Trip::moment_in))]
 pub fn second_of(d: Date) -> i64
     requires { is_date d ≡ true }
     ensures { result ≡ second_of d }
@@ -52,6 +54,7 @@ pub fn second_of(d: Date) -> i64
     moment_of(d) as i64 - EPOCH
 }
 
+#[tactic(auto, using(crate::proofs::Calls::y_small, crate::proofs::Calls::y_from, crate::proofs::Calls::y_in, crate::proofs::Calls::p_small, crate::proofs::Calls::p_made))]
 fn date_at(n: u64) -> Date
     requires { n < 315537897600 }
     ensures { result ≡ date_of n }
