@@ -44,6 +44,7 @@ impl Over {
 }
 
 // Reads until the input ends or `buf` is full. A read that fails is not the end of the input. Each read goes into all that follows the bytes read before.
+// Stays: a rule of the project (no heap). std reads to the end of an input into a `Vec` alone, so the loop is written out.
 pub fn read_all<R: io::Read>(from: &mut R, buf: &mut [u8]) -> Over
     ensures into { ReadInto result buf.new }
     ensures bytes { Consumes (R.remaining from.old) (R.remaining from.new) (take result.bytes buf.new) }

@@ -24,6 +24,7 @@ pub const MOST_PAIRS: usize = 1024;
 pub const TEXT_ROOM: usize = 65600;
 
 // Both listings: they differ only in the third field, and in 27.
+// Stays: the C interface. The list reader, which C calls, fills two lent arrays, so the pairs come as two lists.
 fn put_listing<T: Third>(input: &[u8], out: &mut [u8; TEXT_ROOM]) -> usize
     ensures { Stands (listing_by T.text T.some_lacks input.now) out.old result out.new }
 {

@@ -22,6 +22,8 @@ fn put_line<T: Third>(out: &mut [u8], at: usize, i: usize, seq: u64, sec: i64) -
     put_byte(out, e, b'\n')
 }
 
+// Stays: tried, and the proof did not close. Over a zip of both lists the check does not find at which position a pair stands, so the sequence is read by
+// its position.
 fn put_lines<T: Third>(out: &mut [u8], at: usize, seqs: &[u64], secs: &[i64]) -> usize
     requires pairs { length seqs.now ≡ length secs.now }
     requires has { NoneLacks T.lacks secs.now }
