@@ -1,4 +1,5 @@
 // One array, written from a whole byte on.
+// Stays: a rule of the project, state by value (docs/RULES.md): the buffer and the place in it are two, and the place comes back.
 ghost use Rattle.std.specs.Prelude.{map, ◌+◌, ◌*◌, ◌≤◌, length};
 ghost use Rattle.gorilla.specs.Format.{array_bits};
 ghost use Rattle.array_writer.specs.Inner.{CodesFit, CodesPut, ArrayPut};
@@ -24,6 +25,7 @@ fn write_codes<T: Stored>(buf: &mut [u8], at: Place, first: i64, values: &[T]) -
     let mut p = at;
     let mut held = Held { value: 0, width: 0 };
     let mut rest = values;
+    // Stays: no plainer. A `while let` down the slice, as a run takes seven values more, which a `for` could not skip.
     while let Some((value, after)) = rest.split_first() {
         let c = advance(t, value.to_signed());
         t = c.next;

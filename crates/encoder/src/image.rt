@@ -1,4 +1,5 @@
 // The image, or why there is none.
+// Stays: the C interface lends the sequences and the seconds as two arrays (skut_encode, skut_encode_strict).
 ghost use Rattle.encoder.specs.Encode.{encode_rule, strict_rule, Encodes};
 ghost use Rattle.encoder.specs.Inner.{Measured, EncodesInRoom};
 

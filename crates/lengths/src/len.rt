@@ -27,6 +27,7 @@ fn array_bits<T: Stored>(values: &[T]) -> usize
         delta: 0,
     };
     let mut total: usize = 96;
+    // Stays: no plainer. A `while let` down the slice, as a run takes seven values more, which a `for` could not skip.
     while let Some((value, after)) = rest.split_first() {
         let c = advance(t, value.to_signed());
         t = c.next;
