@@ -1,22 +1,26 @@
 -- What our own functions promise each other. No public statement cites this file.
-use Rattle.std.specs.Prelude.{◌<◌, [], ◌∷◌}
+use Rattle.std.specs.Prelude.{Result, Ok, Err}
 use Rattle.told.specs.Told.{Told, gave, refused}
-use Rattle.totals.specs.Totals.{sum_of, most}
 use Rattle.totals.specs.declared.Fate.TheVariants as fate
 use Rattle.tracker.specs.Refusal.{told}
+use Rattle.tracker.specs.declared.Refusal.{Refusal}
 use Rattle.tracker.specs.declared.Second.{Second}
 use Rattle.tracker.specs.declared.SequenceTracker.{SequenceTracker}
 use Rattle.offers.specs.Offer.{Outcome, recorded, went_back, too_soon, pair_refused, counting, state_with}
 use Rattle.offers.specs.declared.inner.Came.{Came}
-use Rattle.offers.specs.declared.inner.Came.TheVariants.{Recorded, WentBack, TooSoon, PairRefused, Full}
+use Rattle.offers.specs.declared.inner.Came.TheVariants.{Recorded, WentBack, TooSoon, PairRefused}
 
--- what an offer of this second tells, to a table of this state, of which this came
-abbrev pub told_came : SequenceTracker → Second → Came → Told Outcome
-told_came table ts (Recorded count) = gave (recorded (state_with table count ts))
-told_came table ts WentBack = gave (went_back (counting fate.WentBack table))
-told_came table ts TooSoon = gave (too_soon (counting fate.TooSoon table))
-told_came table ts (PairRefused why) = gave (pair_refused (told why) (counting fate.Refused table))
-told_came table ts Full = refused (31 ∷ [])
+-- the outcome of an offer of this second, to a table of this state, of which this came
+abbrev pub came_to : SequenceTracker → Second → Came → Outcome
+came_to table ts (Recorded count) = recorded (state_with table count ts)
+came_to table ts WentBack = went_back (counting fate.WentBack table)
+came_to table ts TooSoon = too_soon (counting fate.TooSoon table)
+came_to table ts (PairRefused why) = pair_refused (told why) (counting fate.Refused table)
+
+-- what it tells
+abbrev pub told_came : SequenceTracker → Second → Result Came Refusal → Told Outcome
+told_came table ts (Ok came) = gave (came_to table ts came)
+told_came table ts (Err why) = refused (told why)
 
 -- the state after it
 abbrev pub state_after : SequenceTracker → Second → Came → SequenceTracker
@@ -24,12 +28,3 @@ state_after table ts (Recorded count) = state_with table count ts
 state_after table ts WentBack = counting fate.WentBack table
 state_after table ts TooSoon = counting fate.TooSoon table
 state_after table ts (PairRefused why) = counting fate.Refused table
-state_after table ts Full = table
-
--- there is room to count it, if it is counted
-abbrev pub RoomFor : SequenceTracker → Came → Type 0
-RoomFor table (Recorded count) = sum_of table.totals < most
-RoomFor table WentBack = sum_of table.totals < most
-RoomFor table TooSoon = sum_of table.totals < most
-RoomFor table (PairRefused why) = sum_of table.totals < most
-RoomFor table Full = Unit {0}

@@ -1,5 +1,5 @@
 -- An offer: what it tells, and the table after it.
-use Rattle.std.specs.Prelude.{ℕ, ◌-◌, Bool, not, cond, ◌&&◌, List, [], ◌∷◌, ltb, eqb, length, get_or, Some}
+use Rattle.std.specs.Prelude.{ℕ, ◌-◌, Bool, not, cond, ◌&&◌, List, [], ◌∷◌, ltb, eqb, length, get_or, Some, Result, Ok, Err}
 use Rattle.told.specs.Told.{Told, gave, refused, if_good}
 use Rattle.told.specs.Over.{over}
 use Rattle.limits.specs.Domain.{outside}
@@ -8,6 +8,7 @@ use Rattle.totals.specs.declared.Fate.{Fate}
 use Rattle.totals.specs.declared.Fate.TheVariants as fate
 use Rattle.tracker.specs.Refusal.{told}
 use Rattle.tracker.specs.Rest.{with_totals}
+use Rattle.tracker.specs.declared.Refusal.{Refusal}
 use Rattle.tracker.specs.declared.Seq.{Seq}
 use Rattle.tracker.specs.declared.Second.{Second}
 use Rattle.tracker.specs.declared.SequenceTracker.{SequenceTracker}
@@ -15,7 +16,7 @@ use Rattle.skipping.specs.Reasons.{goes_back, comes_too_soon}
 use Rattle.keeping.specs.Keep.{kept_with}
 use Rattle.offers.specs.Whole.{Table, whole, check_in, Left, leaving}
 use Rattle.offers.specs.declared.Offered.{Offered}
-use Rattle.offers.specs.declared.Offered.TheVariants.{Recorded, WentBack, TooSoon, PairRefused, Refused}
+use Rattle.offers.specs.declared.Offered.TheVariants.{Recorded, WentBack, TooSoon, PairRefused}
 
 -- an offer that is counted, with the table's new state: recorded; skipped, for one of two reasons; or refused for its pair, with the number
 pub data Outcome : Type 0 where
@@ -25,12 +26,15 @@ pub data Outcome : Type 0 where
   pair_refused : List ℕ → SequenceTracker → Outcome
 
 -- what `offer` tells
-abbrev pub told_offer : Offered → Told Outcome
-told_offer (Recorded t) = gave (recorded t)
-told_offer (WentBack t) = gave (went_back t)
-told_offer (TooSoon t) = gave (too_soon t)
-told_offer (PairRefused r t) = gave (pair_refused (told r) t)
-told_offer (Refused r) = refused (told r)
+abbrev pub told_outcome : Offered → Outcome
+told_outcome (Recorded t) = recorded t
+told_outcome (WentBack t) = went_back t
+told_outcome (TooSoon t) = too_soon t
+told_outcome (PairRefused r t) = pair_refused (told r) t
+
+abbrev pub told_offer : Result Offered Refusal → Told Outcome
+told_offer (Ok o) = gave (told_outcome o)
+told_offer (Err r) = refused (told r)
 
 -- a sequence below the last kept one, of n
 abbrev pub low_seq : List ℕ → ℕ → ℕ → Bool

@@ -10,8 +10,8 @@ use tracker::{Refusal, Second, Seq, SequenceTracker, check};
 pub mod inner;
 mod steps;
 
-// Where the offer is counted, the state after it: a pair that is skipped, or refused for itself (16, 17), changes nothing of it but a
-// total. `Refused` is for the rest: the table is bad, or its totals are full, and nothing is counted.
+// An offer that is counted, with the state after it: a pair that is skipped, or refused for itself (16, 17), changes nothing of it but
+// a total.
 #[derive(Clone, Copy)]
 pub enum Offered {
     Recorded(SequenceTracker),
@@ -21,27 +21,22 @@ pub enum Offered {
         why: Refusal,
         table: SequenceTracker,
     },
-    Refused(Refusal),
 }
 
-// Offers a pair to the table: the table is checked first.
+// Offers a pair to the table: the table is checked first. Where it is bad, or its totals are full, the offer is refused, and nothing
+// is counted.
 pub fn offer(
     table: SequenceTracker,
     seqs: &mut [u64],
     secs: &mut [i64],
     seq: Seq,
     ts: Second,
-) -> Offered
+) -> Result<Offered, Refusal>
     ensures { Leaves
         (offering (whole table seqs.old secs.old) seq ts)
         (told_offer result) seqs.new secs.new }
 {
-    let checked = check(table, seqs, secs);
-    match checked {
-        Ok(()) => {
-            let came = inner::offer_good(table, seqs, secs, seq, ts);
-            steps::offered(table, came, ts)
-        }
-        Err(why) => Offered::Refused(why),
-    }
+    check(table, seqs, secs)?;
+    let came = inner::offer_good(table, seqs, secs, seq, ts)?;
+    Ok(steps::offered(table, came, ts))
 }
