@@ -7,6 +7,7 @@ ghost use Rattle.tallies.specs.Inner.{CountedAs};
 use crate::Tally;
 use offers::Offered;
 use offers::inner::Came;
+use tracker::Refusal;
 
 // Before the first record.
 pub fn none_yet() -> Tally
@@ -24,51 +25,42 @@ pub fn counted(tally: Tally, came: Came) -> Tally
     requires { total tally + 1 < 2 ^ 64 }
     ensures { CountedAs came tally result }
 {
-    let recorded = tally.recorded;
-    let went_back = tally.went_back;
-    let too_soon = tally.too_soon;
     match came {
         Came::Recorded(_) => Tally {
-            recorded: recorded + 1,
-            went_back: went_back,
-            too_soon: too_soon,
+            recorded: tally.recorded + 1,
+            ..tally
         },
         Came::WentBack => Tally {
-            recorded: recorded,
-            went_back: went_back + 1,
-            too_soon: too_soon,
+            went_back: tally.went_back + 1,
+            ..tally
         },
         Came::TooSoon => Tally {
-            recorded: recorded,
-            went_back: went_back,
-            too_soon: too_soon + 1,
+            too_soon: tally.too_soon + 1,
+            ..tally
         },
         Came::PairRefused(_) => tally,
-        Came::Full => tally,
-    }
-}
-
-// These numbers as a tally.
-fn numbers(recorded: usize, went_back: usize, too_soon: usize) -> Tally
-    ensures { result ≡ record { recorded = recorded; went_back = went_back; too_soon = too_soon } }
-{
-    Tally {
-        recorded: recorded,
-        went_back: went_back,
-        too_soon: too_soon,
     }
 }
 
 // Of one offer alone, by what it answered.
-pub fn of_one(offered: Offered) -> Tally
+pub fn of_one(offered: Result<Offered, Refusal>) -> Tally
     ensures { result ≡ counted (told_offer offered) none_yet }
 {
+    let none = none_yet();
     match offered {
-        Offered::Recorded(_) => numbers(1, 0, 0),
-        Offered::WentBack(_) => numbers(0, 1, 0),
-        Offered::TooSoon(_) => numbers(0, 0, 1),
-        Offered::PairRefused { .. } => none_yet(),
-        Offered::Refused(_) => none_yet(),
+        Ok(Offered::Recorded(_)) => Tally {
+            recorded: 1,
+            ..none
+        },
+        Ok(Offered::WentBack(_)) => Tally {
+            went_back: 1,
+            ..none
+        },
+        Ok(Offered::TooSoon(_)) => Tally {
+            too_soon: 1,
+            ..none
+        },
+        Ok(Offered::PairRefused { .. }) | Err(_) => none,
     }
 }
 
