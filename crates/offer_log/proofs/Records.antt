@@ -21,7 +21,7 @@ records-length (suc n) (q ∷ seqs) (s ∷ secs) h l = ap suc (records-length n 
 pub front_length : (n : ℕ) (seqs : List ℕ) (secs : List ℤ) → n ≤ length seqs → n ≤ length secs → length (records_of (take n seqs) (take n secs)) ≡ n
 front_length n seqs secs h l = records-length n (take n seqs) (take n secs) (length-take-le n seqs h) (length-take-le n secs l)
 
-records-at : (seqs : List ℕ) (secs : List ℤ) (i : ℕ) → i < length seqs → i < length secs → get_or (records_of seqs secs) i no_record ≡ pair_of (get_or seqs i 0) (get_or secs i (pos 0))
+pub records-at : (seqs : List ℕ) (secs : List ℤ) (i : ℕ) → i < length seqs → i < length secs → get_or (records_of seqs secs) i no_record ≡ pair_of (get_or seqs i 0) (get_or secs i (pos 0))
 unfolding records_of
 records-at [] secs i h l = absurd (not-suc-le-zero h)
 records-at (q ∷ seqs) [] i h l = absurd (not-suc-le-zero l)
