@@ -5,7 +5,8 @@ ghost use Rattle.offers.specs.Whole.{whole, Leaves};
 ghost use Rattle.offer_log.specs.Log.{told_log};
 ghost use Rattle.offer_log.specs.Pairs.{pairs_log_of, extend_of};
 
-use offer_log::Logged;
+use offer_log::inner::finish;
+use offer_log::{Logged, Refusal};
 use pair_walk::inner::pairs_good;
 use tracker::{SequenceTracker, check};
 
@@ -17,19 +18,16 @@ pub fn offer_pairs(
     secs: &mut [i64],
     from_seqs: &[u64],
     from_secs: &[i64],
-) -> Logged
+) -> Result<Logged, Refusal>
     ensures { Leaves
         (pairs_log_of (whole table seqs.old secs.old) from_seqs.now from_secs.now)
         (told_log result) seqs.new secs.new }
 {
-    let n = from_seqs.len();
-    if n != from_secs.len() {
-        return Logged::LengthsDiffer;
+    if from_seqs.len() != from_secs.len() {
+        return Err(Refusal::LengthsDiffer);
     }
-    match check(table, seqs, secs) {
-        Ok(()) => pairs_good(table, seqs, secs, from_seqs, from_secs, n),
-        Err(why) => Logged::Refused(why),
-    }
+    check(table, seqs, secs)?;
+    Ok(finish(pairs_good(table, seqs, secs, from_seqs, from_secs)))
 }
 
 // Offers the pairs that another table keeps. The own table is checked before the other one.
@@ -40,18 +38,13 @@ pub fn extend_from(
     other: SequenceTracker,
     other_seqs: &[u64],
     other_secs: &[i64],
-) -> Logged
+) -> Result<Logged, Refusal>
     ensures { Leaves
         (extend_of (whole table seqs.old secs.old) (whole other other_seqs.now other_secs.now))
         (told_log result) seqs.new secs.new }
 {
     let n = other.count;
-    let own = check(table, seqs, secs);
-    match own {
-        Ok(()) => match check(other, other_seqs, other_secs) {
-            Ok(()) => pairs_good(table, seqs, secs, other_seqs, other_secs, n),
-            Err(why) => Logged::OtherRefused(why),
-        },
-        Err(why) => Logged::OwnRefused(why),
-    }
+    check(table, seqs, secs).map_err(|why| Refusal::Own(why))?;
+    check(other, other_seqs, other_secs).map_err(|why| Refusal::Other(why))?;
+    Ok(finish(pairs_good(table, seqs, secs, &other_seqs[..n], &other_secs[..n])))
 }
