@@ -1,5 +1,5 @@
 // Records that change the standing table: T, O, G, X and R.
-use offer_log::Logged;
+use offer_log::{Logged, Refusal};
 use offers::Offered;
 use tallies::Tally;
 use totals::Totals;
@@ -95,11 +95,11 @@ pub fn offered(
         Seq(body.read()),
         Second(body.read()),
     ) {
-        Offered::Recorded(next) => (next, 0),
-        Offered::WentBack(next) => (next, 1),
-        Offered::TooSoon(next) => (next, 2),
-        Offered::PairRefused { why, table } => (table, why.number()),
-        Offered::Refused(_) => {
+        Ok(Offered::Recorded(next)) => (next, 0),
+        Ok(Offered::WentBack(next)) => (next, 1),
+        Ok(Offered::TooSoon(next)) => (next, 2),
+        Ok(Offered::PairRefused { why, table }) => (table, why.number()),
+        Err(_) => {
             return Changed {
                 table,
                 agreed: false,
@@ -116,16 +116,22 @@ pub fn offered(
 }
 
 // A list's outcome against what a record tells; a refusal has to be that of the offer after those that were counted.
-fn ran_so(table: SequenceTracker, logged: Logged, told: Outcome) -> Changed {
+fn ran_so(
+    table: SequenceTracker,
+    logged: Result<Logged, Refusal>,
+    told: Outcome,
+) -> Changed {
     let before = table.totals;
     match logged {
-        Logged::Done { table, tally } => { compared(before, table, told, Outcome::of(tally, None)) }
-        Logged::Stopped {
+        Ok(Logged::Done { table, tally }) => {
+            compared(before, table, told, Outcome::of(tally, None))
+        }
+        Ok(Logged::Stopped {
             at,
             why,
             table,
             tally,
-        } => {
+        }) => {
             let came = Outcome::of(tally, Some(why.number()));
             let counted = tally
                 .recorded
@@ -137,7 +143,7 @@ fn ran_so(table: SequenceTracker, logged: Logged, told: Outcome) -> Changed {
                 agreed: done.agreed & (at == counted),
             }
         }
-        _ => Changed {
+        Err(_) => Changed {
             table,
             agreed: false,
         },
