@@ -116,22 +116,20 @@ pub fn offered(
 }
 
 // A list's outcome against what a record tells; a refusal has to be that of the offer after those that were counted.
-fn ran_so(
-    table: SequenceTracker,
-    logged: Result<Logged, Refusal>,
-    told: Outcome,
-) -> Changed {
+fn ran_so(table: SequenceTracker, logged: Result<Logged, Refusal>, told: Outcome) -> Changed {
     let before = table.totals;
     match logged {
         Ok(Logged::Done { table, tally }) => {
             compared(before, table, told, Outcome::of(tally, None))
         }
-        Ok(Logged::Stopped {
-            at,
-            why,
-            table,
-            tally,
-        }) => {
+        Ok(
+            Logged::Stopped {
+                at,
+                why,
+                table,
+                tally,
+            },
+        ) => {
             let came = Outcome::of(tally, Some(why.number()));
             let counted = tally
                 .recorded
