@@ -12,9 +12,9 @@ use Rattle.decoder.proofs.Lengths.{len_within, tail_is}
 use Rattle.decoder.proofs.reader.rest.Goals as goal
 
 -- where the part starts: within the bytes, and where the rest does
-within : (s : List ℕ) (r : Result ℕ Refusal) → told_image_len r ≡ image_len_rule s → result_unwrap_or r (length s) ≤ length s
-within s (Ok n) h = len_within s h
-within s (Err e) h = omega arith
+within : (s : List ℕ) (r : Result ℕ Refusal) {d : ℕ} → d ≤ length s → told_image_len r ≡ image_len_rule s → result_unwrap_or r d ≤ length s
+within s (Ok n) l h = len_within s h
+within s (Err e) l h = l
 
 start_is : (s : List ℕ) (r : Result ℕ Refusal) → told_image_len r ≡ image_len_rule s → result_unwrap_or r (length s) ≡ rest_from s
 start_is s (Ok n) h = ap (start_of s) h
@@ -29,10 +29,10 @@ part_at : (s : List ℕ) (p : ℕ × ℕ) (n : ℕ) → n ≡ rest_from s → �
 part_at s p n e = ap (λ (o : ℕ). (p.0, o)) (add_comm n p.1 ∙ ap (λ (k : ℕ). p.1 + k) e)
 
 pub slice_bounds-result-count : goal.slice_bounds-result-count
-slice_bounds-result-count c = omega (arith, c.unwrap_or-start.ensures, within c.args.bytes.now c.image_len.result c.image_len.ensures)
+slice_bounds-result-count c = rw c.unwrap_or-start.ensures (within c.args.bytes.now c.image_len.result (omega arith) c.image_len.ensures)
 
 pub slice_bounds-result-start : goal.slice_bounds-result-start
-slice_bounds-result-start c = omega (arith, c.unwrap_or-start.ensures, within c.args.bytes.now c.image_len.result c.image_len.ensures)
+slice_bounds-result-start c = rw c.unwrap_or-start.ensures (within c.args.bytes.now c.image_len.result (omega arith) c.image_len.ensures)
 
 pub returns : goal.returns
 returns c =
