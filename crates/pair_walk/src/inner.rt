@@ -20,6 +20,7 @@ fn pair_of(q: &u64, s: &i64) -> TrackedSeq
 }
 
 // The pairs in order, up to the first refusal.
+// Stays: beside the walk of `log_records`, since one over any iterator is no plainer: its contract has to say which records the iterator yields, where each of these names its own.
 #[tactic(auto, using(offer_log::proofs::Run::started, offer_log::proofs::Run::ended))]
 pub fn pairs_good(
     table: SequenceTracker,

@@ -50,6 +50,7 @@ pub enum Refusal {
 }
 
 // What every call on a table checks first: that state and arrays agree, then the kept pairs.
+// Stays: the state and the two arrays stand apart, here and in every call on a table: C lends the arrays for the call alone, and the state is a value (document 01).
 pub fn check(table: SequenceTracker, seqs: &[u64], secs: &[i64]) -> Result<(), Refusal>
     ensures { told_check result ≡ check_of table seqs.now secs.now }
 {
