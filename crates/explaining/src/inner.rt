@@ -1,13 +1,43 @@
 // The reason in a table that is checked, and the position that answers under it.
-ghost use Rattle.std.specs.Prelude.{◌≡◌};
+ghost use Rattle.std.specs.Prelude.{◌≡◌, ◌<◌, length};
+ghost use Rattle.search.specs.Keys.{greater};
+ghost use Rattle.search.specs.Inner.{InOrder};
 ghost use Rattle.explaining.specs.Reason as rules;
 ghost use Rattle.explaining.specs.Inner as own;
 
 use crate::Reason;
 use lookup::FindOption;
+use lookup::inner::place;
+use order::key::Key;
+use search::sorted::Sorted;
 
-pub mod secs; // secs.rt: among seconds
-pub mod seqs; // seqs.rt: among sequences
+// Whether the key at p is above x.
+fn above<K: Key>(keys: &[K], p: usize, x: K) -> bool
+    requires { p < length keys.now }
+    ensures { result ≡ greater K.lt K.zero keys.now x p }
+{
+    x.below(keys[p])
+}
+
+// The reason among the first n keys of a good table.
+pub fn reason<K: Key>(keys: &[K], n: usize, x: K, find_opt: FindOption) -> Reason
+    requires { InOrder K.lt K.zero keys.now n }
+    ensures { result ≡ rules.reason_of K.lt K.zero find_opt keys.now n x }
+{
+    if n == 0 {
+        return Reason::Empty;
+    }
+    let sorted = Sorted { keys: &keys[..n] };
+    let p = sorted.first_not_below(x);
+    if p == n {
+        return beside(p, n, find_opt);
+    }
+    if above(keys, p, x) {
+        return beside(p, n, find_opt);
+    }
+    let at = place(keys, n, x, find_opt);
+    Reason::Exact(at.unwrap_or(n))
+}
 
 // The position before p, where there is one.
 fn before(p: usize) -> Option<usize>

@@ -45,7 +45,7 @@ pub fn why_ts(
 {
     check(table, seqs, secs)?;
     let n = table.count;
-    let reason = inner::seqs::reason(seqs, n, seq, find_opt);
+    let reason = inner::reason(seqs, n, seq.0, find_opt);
     let at = inner::answering(reason, n);
     let answer = if at < n { Some(Second(secs[at])) } else { None };
     Ok(Why { reason, answer })
@@ -63,7 +63,7 @@ pub fn why_seq(
 {
     check(table, seqs, secs)?;
     let n = table.count;
-    let reason = inner::secs::reason(secs, n, ts, find_opt);
+    let reason = inner::reason(secs, n, ts.0, find_opt);
     let at = inner::answering(reason, n);
     let answer = if at < n { Some(Seq(seqs[at])) } else { None };
     Ok(Why { reason, answer })

@@ -28,11 +28,9 @@ pub fn find_ts(
 {
     check(table, seqs, secs)?;
     let n = table.count;
-    let at = inner::seqs::place(seqs, n, seq, find_opt);
-    if at < n {
-        Ok(Some(Second(secs[at])))
-    } else {
-        Ok(None)
+    match inner::place(seqs, n, seq.0, find_opt) {
+        Some(at) => Ok(Some(Second(secs[at]))),
+        None => Ok(None),
     }
 }
 
@@ -48,10 +46,8 @@ pub fn find_seq(
 {
     check(table, seqs, secs)?;
     let n = table.count;
-    let at = inner::secs::place(secs, n, ts, find_opt);
-    if at < n {
-        Ok(Some(Seq(seqs[at])))
-    } else {
-        Ok(None)
+    match inner::place(secs, n, ts.0, find_opt) {
+        Some(at) => Ok(Some(Seq(seqs[at]))),
+        None => Ok(None),
     }
 }

@@ -17,7 +17,7 @@ module _ (table : SequenceTracker) (seqs : List ℕ) (secs : List ℤ) (good : c
   pub good-pairs : GoodPairs seqs secs table.count
   good-pairs =
       let ok = fine table seqs secs good in
-      ((count-seqs table seqs secs ok.state, ok.pairs.seqs_rise), (count-secs table seqs secs ok.state, ok.pairs.secs_rise, ok.pairs.inside))
+      ((count-seqs table seqs secs ok.state, ok.pairs.seqs_rise), (count-secs table seqs secs ok.state, ok.pairs.secs_rise))
 
   pub gives_ts : (opt : FindOption) (key : Seq) → gave (ts_partner seqs secs table.count key opt) ≡ find_ts table seqs secs key opt
   gives_ts opt key = rw good

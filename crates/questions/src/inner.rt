@@ -15,18 +15,15 @@ pub fn ts_answer(seqs: &[u64], secs: &[i64], n: usize, seq: Seq, find_opt: FindO
     requires { GoodPairs seqs.now secs.now n }
     ensures { result ≡ ts_stands (ts_partner seqs.now secs.now n seq find_opt) }
 {
-    let at = lookup::inner::seqs::place(seqs, n, seq, find_opt);
-    if at < n {
-        let second = secs[at];
-        TsAnswer {
+    match lookup::inner::place(seqs, n, seq.0, find_opt) {
+        Some(at) => TsAnswer {
             found: 1,
-            second: Second(second),
-        }
-    } else {
-        TsAnswer {
+            second: Second(secs[at]),
+        },
+        None => TsAnswer {
             found: 0,
             second: Second(0),
-        }
+        },
     }
 }
 
@@ -41,18 +38,15 @@ pub fn seq_answer(
     requires { GoodPairs seqs.now secs.now n }
     ensures { result ≡ seq_stands (seq_partner seqs.now secs.now n ts find_opt) }
 {
-    let at = lookup::inner::secs::place(secs, n, ts, find_opt);
-    if at < n {
-        let sequence = seqs[at];
-        SeqAnswer {
+    match lookup::inner::place(secs, n, ts.0, find_opt) {
+        Some(at) => SeqAnswer {
             found: 1,
-            seq: Seq(sequence),
-        }
-    } else {
-        SeqAnswer {
+            seq: Seq(seqs[at]),
+        },
+        None => SeqAnswer {
             found: 0,
             seq: Seq(0),
-        }
+        },
     }
 }
 

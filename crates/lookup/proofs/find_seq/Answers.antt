@@ -3,7 +3,7 @@ use Rattle.tracker.specs.Refusal.{told_check}
 use Rattle.tracker.proofs.Good.{fine, count-secs}
 use Rattle.lookup.proofs.find_seq.Goals as goal
 
-pub place-at-requires : goal.place-at-requires
-place-at-requires c =
+pub place-requires : goal.place-requires
+place-requires c =
     let ok = fine c.args.table c.args.seqs.now c.args.secs.now (sym c.check.ensures ∙ ap told_check c.in_ok-check.was) in
-    (count-secs _ _ _ ok.state, ok.pairs.secs_rise, ok.pairs.inside)
+    (count-secs _ _ _ ok.state, ok.pairs.secs_rise)
