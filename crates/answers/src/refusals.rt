@@ -8,6 +8,7 @@ ghost use Rattle.encoder.specs.Encode as encoding;
 ghost use Rattle.tracker.specs.Refusal as table;
 ghost use Rattle.dates.specs.Refusal as dating;
 ghost use Rattle.questions.specs.Asked as questions;
+ghost use Rattle.offer_log.specs.Log as log;
 ghost use Rattle.saving.specs.Save as saves;
 ghost use Rattle.restoring.specs.Restore as restores;
 ghost use Rattle.answers.specs.Answer.{answer_of};
@@ -171,6 +172,20 @@ impl From<questions::Refusal> for Answer {
             questions::Refusal::TooMany => Answer::telling(35, 0, 0, 0),
             questions::Refusal::LengthsDiffer => Answer::telling(18, 0, 0, 0),
             questions::Refusal::Table(why) => why.into(),
+        }
+    }
+}
+
+// Of a list of offers.
+impl From<offer_log::Refusal> for Answer {
+    ghost from_gives = { λ why answer. answer ≡ answer_of (log.told_refusal why) };
+
+    fn from(why: offer_log::Refusal) -> Answer {
+        match why {
+            offer_log::Refusal::Table(why) => why.into(),
+            offer_log::Refusal::Own(why) => of_table_and(why, 0),
+            offer_log::Refusal::Other(why) => of_table_and(why, 1),
+            offer_log::Refusal::LengthsDiffer => Answer::telling(18, 0, 0, 0),
         }
     }
 }

@@ -1,69 +1,91 @@
-// The answer of each call below that gives a table, as it crosses.
-ghost use Rattle.std.specs.Prelude.{◌≡◌};
-ghost use Rattle.tracker.specs.Refusal.{told_made};
+// What a call gives that has a table, as it crosses with the table's state: a table, an offer, a list of offers; and what is that or a refusal.
+ghost use Rattle.std.specs.Prelude.{◌≡◌, [], ◌∷◌, Ok, MatchResult};
+ghost use Rattle.tallies.specs.Tally.{none_yet};
 ghost use Rattle.offers.specs.Offer.{told_offer};
 ghost use Rattle.offer_log.specs.Log.{told_log};
-ghost use Rattle.restoring.specs.Restore.{told_restore};
-ghost use Rattle.table_answers.specs.Table.{of_table, of_offer, of_log};
+ghost use Rattle.states.specs.State.{state_of, no_state};
+ghost use Rattle.answers.specs.declared.Answer.{Answer};
+ghost use Rattle.table_answers.specs.Table.{table_answer_of, of_offer, of_log};
 
-use crate::{TableAnswer, refusals, tables};
-use answers::inner::answer;
+use crate::TableAnswer;
+use answers::Answer;
+use answers::inner::of_table_and;
 use offer_log::Logged;
 use offers::Offered;
-use restoring::Restored;
-use tallies::inner::of_one;
-use tracker::{Refusal, SequenceTracker};
+use states::inner::{no_state, state_of};
+use tallies::inner::{none_yet, of_one};
+use tracker::SequenceTracker;
 
-pub fn of_made(made: Result<SequenceTracker, Refusal>) -> TableAnswer
-    ensures { result ≡ of_table (told_made made) }
-{
-    match made {
-        Ok(table) => tables::fresh(table),
-        Err(why) => tables::no_table(answers::inner::of_table(why)),
+// A table alone: no offers were made.
+impl From<SequenceTracker> for TableAnswer {
+    ghost from_gives = { λ table answer. answer ≡ table_answer_of (0 ∷ []) none_yet (state_of table) };
+
+    fn from(table: SequenceTracker) -> TableAnswer {
+        TableAnswer {
+            answer: Answer::from(()),
+            tally: none_yet(),
+            state: state_of(table),
+        }
     }
 }
 
-pub fn of_offered(offered: Offered) -> TableAnswer
-    ensures { result ≡ of_offer (told_offer offered) }
-{
-    let tally = of_one(offered);
-    match offered {
-        Offered::Recorded(table) => tables::with_table(answer(0, 0, 0, 0), table, tally),
-        Offered::WentBack(table) => tables::with_table(answer(0, 0, 0, 0), table, tally),
-        Offered::TooSoon(table) => tables::with_table(answer(0, 0, 0, 0), table, tally),
-        Offered::PairRefused { why, table } => tables::with_table(
-            answers::inner::of_table(why),
-            table,
+// An offer that was judged: one that is refused for its pair has a table, too.
+impl From<Offered> for TableAnswer {
+    ghost from_gives = { λ offered answer. answer ≡ of_offer (told_offer (Ok offered)) };
+
+    fn from(offered: Offered) -> TableAnswer {
+        let tally = of_one(Ok(offered));
+        let (answer, table) = match offered {
+            Offered::Recorded(table) => (Answer::from(()), table),
+            Offered::WentBack(table) => (Answer::from(()), table),
+            Offered::TooSoon(table) => (Answer::from(()), table),
+            Offered::PairRefused { why, table } => (Answer::from(why), table),
+        };
+        TableAnswer {
+            answer,
             tally,
-        ),
-        Offered::Refused(why) => tables::no_table(answers::inner::of_table(why)),
+            state: state_of(table),
+        }
     }
 }
 
-pub fn of_logged(logged: Logged) -> TableAnswer
-    ensures { result ≡ of_log (told_log logged) }
-{
-    match logged {
-        Logged::Done { table, tally } => tables::with_table(answer(0, 0, 0, 0), table, tally),
-        Logged::Stopped {
-            at,
-            why,
-            table,
-            tally,
-        } => tables::with_table(refusals::of_table_and(why, at as u64), table, tally),
-        Logged::Refused(why) => tables::no_table(answers::inner::of_table(why)),
-        Logged::OwnRefused(why) => tables::no_table(refusals::of_table_and(why, 0)),
-        Logged::OtherRefused(why) => tables::no_table(refusals::of_table_and(why, 1)),
-        Logged::LengthsDiffer => tables::no_table(answer(18, 0, 0, 0)),
+// A list of offers, all offered or stopped at a record: its refusal, and its position.
+impl From<Logged> for TableAnswer {
+    ghost from_gives = { λ logged answer. answer ≡ of_log (told_log (Ok logged)) };
+
+    fn from(logged: Logged) -> TableAnswer {
+        match logged {
+            Logged::Done { table, tally } => TableAnswer {
+                answer: Answer::from(()),
+                tally,
+                state: state_of(table),
+            },
+            Logged::Stopped {
+                at,
+                why,
+                table,
+                tally,
+            } => TableAnswer {
+                answer: of_table_and(why, at as u64),
+                tally,
+                state: state_of(table),
+            },
+        }
     }
 }
 
-pub fn of_restored(restored: Restored) -> TableAnswer
-    ensures { result ≡ of_table (told_restore restored) }
-{
-    match restored {
-        Restored::Table(table) => tables::fresh(table),
-        Restored::Refused(why) => tables::no_table(answers::inner::of_table(why)),
-        Restored::NotDecoded(why) => tables::no_table(answers::inner::reading(why)),
+// What is given, or why it is refused: then there is no table, and the state is one that every call refuses.
+impl<T: Into<TableAnswer>, E: Into<Answer>> From<Result<T, E>> for TableAnswer {
+    ghost from_gives = { λ told answer. MatchResult told (λ given. T.converts given answer) (λ why. (refusal : Answer) × E.converts why refusal × (answer ≡ record { answer = refusal; tally = none_yet; state = no_state })) };
+
+    fn from(told: Result<T, E>) -> TableAnswer {
+        match told {
+            Ok(given) => given.into(),
+            Err(why) => TableAnswer {
+                answer: why.into(),
+                tally: none_yet(),
+                state: no_state(),
+            },
+        }
     }
 }

@@ -2,10 +2,7 @@
 // the others.
 #![tactic(auto)]
 
-mod calls; // calls.rt: each call's answer
-pub mod inner; // inner.rt: what our own crates call
-mod refusals; // refusals.rt: a refusal in a list of offers
-mod tables; // tables.rt: with a table's state, and with none
+mod calls; // calls.rt: what a call gives that has a table, and what is that or a refusal
 
 use answers::Answer;
 use states::State;
