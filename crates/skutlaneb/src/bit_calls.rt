@@ -7,7 +7,6 @@ ghost use Rattle.answers.specs.Answer.{of_piece, of_place, of_signed};
 
 use answers::Answer;
 use bits::Place;
-use call_answers::inner as calls;
 
 // Gives the bits as a number, and the byte and the bit of the place after them.
 #[unsafe(no_mangle)]
@@ -18,7 +17,7 @@ pub extern "C" fn skut_read_bits(s: &[u8], byte: usize, bit: u8, width: u8) -> A
         byte: byte,
         bit: bit,
     };
-    calls::of_read(bits::read_bits(s, at, width))
+    Answer::from(bits::read_bits(s, at, width))
 }
 
 // Gives the byte and the bit of the place after the bits.
@@ -37,7 +36,7 @@ pub extern "C" fn skut_write_bits(
         byte: byte,
         bit: bit,
     };
-    calls::of_written(bits::write_bits(buf, at, value, width))
+    Answer::from(bits::write_bits(buf, at, value, width))
 }
 
 // Gives the signed number by its 64 bits.
@@ -45,5 +44,5 @@ pub extern "C" fn skut_write_bits(
 pub extern "C" fn skut_sign_extend(val: u32, bits: u8) -> Answer
     ensures { result ≡ of_signed (extend_rule val bits) }
 {
-    calls::of_extension(signed::sign_extend(val, bits))
+    Answer::from(signed::sign_extend(val, bits))
 }

@@ -5,7 +5,6 @@ ghost use Rattle.answers.specs.Answer.{of_signed};
 ghost use Rattle.skutlaneb.specs.Calls.{SkutWritesDate};
 
 use answers::Answer;
-use call_answers::inner as calls;
 use tracker::Second;
 
 // Gives the bytes written, which are twenty.
@@ -13,7 +12,7 @@ use tracker::Second;
 pub extern "C" fn skut_write_date(sec: i64, out: &mut [u8]) -> Answer
     ensures { SkutWritesDate sec out.old result out.new }
 {
-    calls::of_date_written(dates::write_date(Second(sec), out))
+    Answer::from(dates::write_date(Second(sec), out))
 }
 
 // Gives the second, by its 64 bits.
@@ -21,5 +20,5 @@ pub extern "C" fn skut_write_date(sec: i64, out: &mut [u8]) -> Answer
 pub extern "C" fn skut_read_date(bytes: &[u8]) -> Answer
     ensures { result ≡ of_signed (read_date bytes.now) }
 {
-    calls::of_date_read(dates::read_date(bytes))
+    Answer::from(dates::read_date(bytes))
 }

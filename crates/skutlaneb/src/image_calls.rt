@@ -6,14 +6,13 @@ ghost use Rattle.answers.specs.Answer.{of_count};
 ghost use Rattle.skutlaneb.specs.Calls.{SkutEncodes};
 
 use answers::Answer;
-use call_answers::inner as calls;
 
 // Gives the bytes of the image.
 #[unsafe(no_mangle)]
 pub extern "C" fn skut_encoded_len(seqs: &[u64], secs: &[i64]) -> Answer
     ensures { result ≡ of_count (encoding.len_rule seqs.now secs.now) }
 {
-    calls::of_encoded_len(encoder::encoded_len(seqs, secs))
+    Answer::from(encoder::encoded_len(seqs, secs))
 }
 
 // Gives the bytes written.
@@ -21,7 +20,7 @@ pub extern "C" fn skut_encoded_len(seqs: &[u64], secs: &[i64]) -> Answer
 pub extern "C" fn skut_encode(seqs: &[u64], secs: &[i64], out: &mut [u8]) -> Answer
     ensures { SkutEncodes encoding.encode_rule seqs.now secs.now out.old result out.new }
 {
-    calls::of_encoded(encoder::encode(seqs, secs, out))
+    Answer::from(encoder::encode(seqs, secs, out))
 }
 
 // Gives the bytes written.
@@ -29,7 +28,7 @@ pub extern "C" fn skut_encode(seqs: &[u64], secs: &[i64], out: &mut [u8]) -> Ans
 pub extern "C" fn skut_encode_strict(seqs: &[u64], secs: &[i64], out: &mut [u8]) -> Answer
     ensures { SkutEncodes encoding.strict_rule seqs.now secs.now out.old result out.new }
 {
-    calls::of_encoded(encoder::encode_strict(seqs, secs, out))
+    Answer::from(encoder::encode_strict(seqs, secs, out))
 }
 
 // The list reader. Gives the pair count.
@@ -39,7 +38,7 @@ pub extern "C" fn skut_decode(bytes: &[u8], seqs: &mut [u64], secs: &mut [i64]) 
     ensures seqs { seqs.new ≡ decoding.seqs_after bytes.now seqs.old secs.old }
     ensures secs { secs.new ≡ decoding.secs_after bytes.now seqs.old secs.old }
 {
-    calls::of_decoded(decoder::decode(bytes, seqs, secs))
+    Answer::from(decoder::decode(bytes, seqs, secs))
 }
 
 // Gives the image's length: what follows it starts there.
@@ -47,5 +46,5 @@ pub extern "C" fn skut_decode(bytes: &[u8], seqs: &mut [u64], secs: &mut [i64]) 
 pub extern "C" fn skut_image_len(bytes: &[u8]) -> Answer
     ensures { result ≡ of_count (decoding.image_len_rule bytes.now) }
 {
-    calls::of_image_len(decoder::image_len(bytes))
+    Answer::from(decoder::image_len(bytes))
 }

@@ -2,7 +2,7 @@
 ghost use Rattle.skutlaneb.specs.Calls.{SkutFindsTs16, SkutFindsSeq16, SkutFindsTsEach, SkutFindsSeqEach};
 
 use answers::Answer;
-use call_answers::{SeqSheetAnswer, TsSheetAnswer, inner as calls};
+use call_answers::{SeqSheetAnswer, TsSheetAnswer};
 use sheets::{SeqSheet, TsSheet};
 use states::State;
 
@@ -19,7 +19,7 @@ pub extern "C" fn skut_find_ts_16(
 {
     let table = states::inner::table_of(state);
     let opt = states::inner::round_of(round);
-    calls::of_ts_sheet(sheets::find_ts_16(table, seqs, secs, sheet, opt))
+    TsSheetAnswer::from(sheets::find_ts_16(table, seqs, secs, sheet, opt))
 }
 
 // The sequences for up to sixteen seconds.
@@ -35,7 +35,7 @@ pub extern "C" fn skut_find_seq_16(
 {
     let table = states::inner::table_of(state);
     let opt = states::inner::round_of(round);
-    calls::of_seq_sheet(sheets::find_seq_16(table, seqs, secs, sheet, opt))
+    SeqSheetAnswer::from(sheets::find_seq_16(table, seqs, secs, sheet, opt))
 }
 
 // The second for each sequence of a list: a mark of 1 beside it, or both 0 where nothing is answered.
@@ -55,7 +55,7 @@ pub extern "C" fn skut_find_ts_each(
     let table = states::inner::table_of(state);
     let opt = states::inner::round_of(round);
     let asked = question_lists::find_ts_each(table, seqs, secs, keys, answers, found, opt);
-    calls::of_asked(asked)
+    Answer::from(asked)
 }
 
 // The sequence for each second of a list.
@@ -75,5 +75,5 @@ pub extern "C" fn skut_find_seq_each(
     let table = states::inner::table_of(state);
     let opt = states::inner::round_of(round);
     let asked = question_lists::find_seq_each(table, seqs, secs, keys, answers, found, opt);
-    calls::of_asked(asked)
+    Answer::from(asked)
 }

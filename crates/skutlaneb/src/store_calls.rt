@@ -4,9 +4,8 @@ ghost use Rattle.restoring.specs.Restore.{restore_of, restore_at};
 ghost use Rattle.skutlaneb.specs.Calls.{SkutSaves, SkutRestores};
 
 use answers::Answer;
-use call_answers::inner as calls;
 use states::State;
-use table_answers::{TableAnswer, inner as tables};
+use table_answers::TableAnswer;
 
 // Gives the bytes written.
 #[unsafe(no_mangle)]
@@ -14,7 +13,7 @@ pub extern "C" fn skut_save(state: State, seqs: &[u64], secs: &[i64], out: &mut 
     ensures { SkutSaves save_of state seqs.now secs.now out.old result out.new }
 {
     let table = states::inner::table_of(state);
-    calls::of_saved(saving::save(table, seqs, secs, out))
+    Answer::from(saving::save(table, seqs, secs, out))
 }
 
 // Gives the bytes written.
@@ -28,7 +27,7 @@ pub extern "C" fn skut_save_strict(
     ensures { SkutSaves save_strict_of state seqs.now secs.now out.old result out.new }
 {
     let table = states::inner::table_of(state);
-    calls::of_saved(saving::save_strict(table, seqs, secs, out))
+    Answer::from(saving::save_strict(table, seqs, secs, out))
 }
 
 // The table has the default settings. Needs 130 KB of stack: two arrays of 8,192 are its own.
@@ -36,7 +35,7 @@ pub extern "C" fn skut_save_strict(
 pub extern "C" fn skut_restore(bytes: &[u8], seqs: &mut [u64], secs: &mut [i64]) -> TableAnswer
     ensures { SkutRestores restore_of bytes.now seqs.old secs.old result seqs.new secs.new }
 {
-    tables::of_restored(restoring::restore(bytes, seqs, secs))
+    TableAnswer::from(restoring::restore(bytes, seqs, secs))
 }
 
 // The same with the interval that is named. Needs as much stack.
@@ -49,5 +48,5 @@ pub extern "C" fn skut_restore_with_interval(
 ) -> TableAnswer
     ensures { SkutRestores (restore_at interval_secs) bytes.now seqs.old secs.old result seqs.new secs.new }
 {
-    tables::of_restored(restoring::restore_with_interval(bytes, seqs, secs, interval_secs))
+    TableAnswer::from(restoring::restore_with_interval(bytes, seqs, secs, interval_secs))
 }

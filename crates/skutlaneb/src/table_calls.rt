@@ -10,9 +10,8 @@ ghost use Rattle.table_answers.specs.Table.{of_table};
 ghost use Rattle.skutlaneb.specs.Calls.{SkutOffers, SkutOffersPairs, SkutExtends};
 
 use answers::Answer;
-use call_answers::inner as calls;
 use states::State;
-use table_answers::{TableAnswer, inner as tables};
+use table_answers::TableAnswer;
 use tracker::{Second, Seq};
 
 // An empty table with the default settings.
@@ -20,7 +19,7 @@ use tracker::{Second, Seq};
 pub extern "C" fn skut_new() -> TableAnswer
     ensures { result ≡ of_table (gave new_table) }
 {
-    tables::fresh(fresh::new())
+    TableAnswer::from(fresh::new())
 }
 
 // An empty table with the settings named.
@@ -28,7 +27,7 @@ pub extern "C" fn skut_new() -> TableAnswer
 pub extern "C" fn skut_with_config(capacity: u32, interval_secs: u64) -> TableAnswer
     ensures { result ≡ of_table (config_of capacity interval_secs) }
 {
-    tables::of_made(fresh::with_config(capacity, interval_secs))
+    TableAnswer::from(fresh::with_config(capacity, interval_secs))
 }
 
 // What every call on a table checks first. Gives nothing: the number is 0 where the table is good.
@@ -37,7 +36,7 @@ pub extern "C" fn skut_check(state: State, seqs: &[u64], secs: &[i64]) -> Answer
     ensures { result ≡ of_check (check_of (table_of state) seqs.now secs.now) }
 {
     let table = states::inner::table_of(state);
-    calls::of_checked(tracker::check(table, seqs, secs))
+    Answer::from(tracker::check(table, seqs, secs))
 }
 
 // Where it is not refused, one of the three numbers of the tally is 1. Skipped, for either reason, or refused with 16 or 17, nothing of the
@@ -54,7 +53,7 @@ pub extern "C" fn skut_offer(
 {
     let table = states::inner::table_of(state);
     let offered = offers::offer(table, seqs, secs, Seq(seq), Second(sec));
-    tables::of_offered(offered)
+    TableAnswer::from(offered)
 }
 
 // A list of offers: two lists of one length. Stopped at a record, the answer tells its position.
@@ -70,7 +69,7 @@ pub extern "C" fn skut_offer_pairs(
         result seqs.new secs.new }
 {
     let table = states::inner::table_of(state);
-    tables::of_logged(log_pairs::offer_pairs(table, seqs, secs, from_seqs, from_secs))
+    TableAnswer::from(log_pairs::offer_pairs(table, seqs, secs, from_seqs, from_secs))
 }
 
 // The pairs that another table keeps, offered. A bad table's refusal also tells, last, which it was: 0 the own, 1 the other.
@@ -89,7 +88,7 @@ pub extern "C" fn skut_extend_from(
     let table = states::inner::table_of(state);
     let from = states::inner::table_of(other);
     let logged = log_pairs::extend_from(table, seqs, secs, from, other_seqs, other_secs);
-    tables::of_logged(logged)
+    TableAnswer::from(logged)
 }
 
 // Gives 1 and the second for a sequence, by its 64 bits, or 0. A `round` of 0 rounds up, any other down.
@@ -105,7 +104,7 @@ pub extern "C" fn skut_find_ts(
 {
     let table = states::inner::table_of(state);
     let opt = states::inner::round_of(round);
-    calls::of_found_ts(lookup::find_ts(table, seqs, secs, Seq(seq), opt))
+    Answer::from(lookup::find_ts(table, seqs, secs, Seq(seq), opt))
 }
 
 // Gives 1 and the sequence for a second, or 0.
@@ -121,5 +120,5 @@ pub extern "C" fn skut_find_seq(
 {
     let table = states::inner::table_of(state);
     let opt = states::inner::round_of(round);
-    calls::of_found_seq(lookup::find_seq(table, seqs, secs, Second(sec), opt))
+    Answer::from(lookup::find_seq(table, seqs, secs, Second(sec), opt))
 }

@@ -6,7 +6,7 @@ ghost use Rattle.why_answers.specs.Why.{of_why_ts, of_why_seq};
 
 use states::State;
 use tracker::{Second, Seq};
-use why_answers::{WhyAnswer, inner as reasons};
+use why_answers::WhyAnswer;
 
 // The second for a sequence, as `skut_find_ts` gives it, and the reason.
 #[unsafe(no_mangle)]
@@ -21,7 +21,7 @@ pub extern "C" fn skut_why_ts(
 {
     let table = states::inner::table_of(state);
     let opt = states::inner::round_of(round);
-    reasons::of_why_ts(explaining::why_ts(table, seqs, secs, Seq(seq), opt))
+    WhyAnswer::from(explaining::why_ts(table, seqs, secs, Seq(seq), opt))
 }
 
 // The sequence for a second, as `skut_find_seq` gives it, and the reason.
@@ -37,5 +37,5 @@ pub extern "C" fn skut_why_seq(
 {
     let table = states::inner::table_of(state);
     let opt = states::inner::round_of(round);
-    reasons::of_why_seq(explaining::why_seq(table, seqs, secs, Second(sec), opt))
+    WhyAnswer::from(explaining::why_seq(table, seqs, secs, Second(sec), opt))
 }
