@@ -23,8 +23,9 @@ use Rattle.limits.specs.Settings.{bad_settings}
 use Rattle.fresh.specs.Fresh.{fresh_table, default_capacity}
 use Rattle.tracker.specs.Table.{pairs_of}
 use Rattle.tracker.specs.Inner.{last_misplaced, last_outside, last_below}
+use Rattle.tracker.specs.declared.Second.{Second}
 use Rattle.tracker.specs.declared.SequenceTracker.{SequenceTracker}
-use Rattle.std.specs.Prelude.{None, Some, Ok}
+use Rattle.std.specs.Prelude.{None, Some, Ok, Option}
 use Rattle.tracker.proofs.Good.{Sorted, sorted, fine_again}
 use Rattle.tracker.proofs.Kept.{kept_at, pairs-kept}
 use Rattle.offers.proofs.Rise.{over-length}
@@ -43,7 +44,7 @@ last_agrees : (seqs : List ℕ) (xs ys : List ℤ) (n : ℕ) → Sorted seqs xs 
     → (last_misplaced (last_of xs n) n ≡ false) × (last_outside (last_of xs n) ≡ false) × (last_below (last_of xs n) ys n ≡ false)
 last_agrees seqs xs ys n s e = go (eqb n 0) refl
   where
-    go : (t : Bool) → eqb n 0 ≡ t → let l = cond t None (Some (record { 0 = get_or xs (n - 1) (pos 0) })) in (last_misplaced l n ≡ false) × (last_outside l ≡ false) × (last_below l ys n ≡ false)
+    go : (t : Bool) → eqb n 0 ≡ t → let l : Option Second = cond t None (Some (record { 0 = get_or xs (n - 1) (pos 0) })) in (last_misplaced l n ≡ false) × (last_outside l ≡ false) × (last_below l ys n ≡ false)
     go true f = (rw f, refl, refl)
     go false f =
         let z = eqb-false n 0 f in
