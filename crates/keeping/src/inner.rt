@@ -12,6 +12,7 @@ const STEP: usize = 2;
 
 // Gives how many elements stay, of n and one more. A pair's sequence and its second each go to an array of their own, and both
 // arrays keep as many.
+// Stays: no plainer: n beside the slice, as the new element may go to place n, past the slice of the first n.
 pub fn keep<T: Copy>(items: &mut [T], n: usize, capacity: usize, item: T) -> usize
     requires { (n ≤ length items.old) × (capacity ≤ length items.old) × (0 < length items.old) }
     ensures count { result ≡ count_with capacity n }

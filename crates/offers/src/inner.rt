@@ -16,6 +16,7 @@ use tracker::{Refusal, Second, Seq, SequenceTracker};
 
 // What came of an offer that is counted: recorded, so that so many pairs stand; skipped; or refused for its pair, with 16 or 17. It is
 // small: a list asks for one for each record, and a state in it would be copied each time.
+// Stays: no plainer: one type for this and `Offered` would be over what each of the four cases holds, and they hold different things.
 #[derive(Clone, Copy)]
 pub enum Came {
     Recorded(usize),

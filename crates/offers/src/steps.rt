@@ -11,6 +11,7 @@ use totals::inner::one_more;
 use tracker::{Second, SequenceTracker};
 
 // Whether q is below the last kept sequence.
+// Stays: no plainer: n beside the slice, as in the rule `low_seq` that the caller's clause names.
 pub(crate) fn low_seq(seqs: &[u64], n: usize, q: u64) -> bool
     requires { n ≤ length seqs.now }
     ensures { result ≡ low_seq seqs.now n q }
