@@ -21,14 +21,12 @@ pub(crate) fn answers(
         answers.old found.old answers.new found.new }
 {
     let m = keys.len();
-    let mut i = 0;
-    while i < m {
+    for i in 0..m {
         let key = keys[i];
         let answer = seq_answer(seqs, secs, n, Second(key), find_opt);
         let seq = answer.seq;
         let value = seq.0;
         answers[i] = value;
         found[i] = answer.found as u8;
-        i += 1;
     }
 }

@@ -22,14 +22,12 @@ pub(crate) fn answers(
         answers.old found.old answers.new found.new }
 {
     let m = keys.len();
-    let mut i = 0;
-    while i < m {
+    for i in 0..m {
         let key = keys[i];
         let answer = ts_answer(seqs, secs, n, Seq(key), find_opt);
         let second = answer.second;
         let value = second.0;
         answers[i] = value;
         found[i] = answer.found as u8;
-        i += 1;
     }
 }

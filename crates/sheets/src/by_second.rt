@@ -19,12 +19,10 @@ pub(crate) fn answers(
 {
     let used = sheet.used;
     let mut filled = sheet;
-    let mut i = 0;
-    while i < used {
+    for i in 0..used {
         let key = filled.keys[i];
         let answer = seq_answer(seqs, secs, n, key, find_opt);
         filled.answers[i] = answer;
-        i += 1;
     }
     filled
 }

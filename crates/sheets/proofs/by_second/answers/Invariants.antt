@@ -1,9 +1,6 @@
-use Prim.Native.Nat.{◌≤◌, ◌-◌}
+use Prim.Native.Nat.{◌≤◌}
 use Rattle.sheets.specs.Inner.{FilledSeq}
 use Rattle.sheets.proofs.by_second.answers.Given as goal
 
 abbrev pub invariant-loop-i : goal.invariant-loop-i
 invariant-loop-i l = FilledSeq l.seqs l.secs l.n l.find_opt l.i l.initial.filled l.filled × (l.i ≤ l.used)
-
-abbrev pub decreases-loop-i : goal.decreases-loop-i
-decreases-loop-i l = l.used - l.i
