@@ -22,6 +22,7 @@ fn four<K: Key>(keys: &[K], i: usize) -> bool
 }
 
 // Some index below which none drops, by steps of four.
+// Stays: the counted loop by fours, for the bar of speed of docs/SPEED.md, "Lookups": the check takes 7.5 instructions a kept pair.
 pub(crate) fn steady<K: Key>(keys: &[K]) -> usize
     ensures { (1 ≤ result) × NoneBelow (drops K.lt K.zero keys.now) result }
 {

@@ -5,6 +5,7 @@ pub mod inner; // inner.rt: what our own crates call
 
 use totals::Totals;
 
+// Stays: a mark beside the last second, since the struct crosses to C as it stands (#[repr(C)]).
 // `has_last` says whether `last` is there: 0 is no, 1 yes, and any other number makes it a state that every call refuses.
 #[repr(C)]
 #[derive(Clone, Copy)]
