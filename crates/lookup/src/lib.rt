@@ -16,6 +16,7 @@ pub enum FindOption {
     RoundDown,
 }
 
+// Stays: two calls of one shape, since C has both (skut_find_ts, skut_find_seq); each goes by the one `place`.
 // The second for a sequence number.
 pub fn find_ts(
     table: SequenceTracker,

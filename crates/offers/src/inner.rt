@@ -25,6 +25,8 @@ pub enum Came {
     PairRefused(Refusal),
 }
 
+// Stays: no plainer. That the table is good is asked here and by both walks of a log, and that its totals have room by `after` and three steps: a type for the first
+// would borrow arrays that change with each offer, and one for the second be made for one call.
 // An offer leaves a good table good, so a list of offers checks its table once. Refused, with 31, it is not counted.
 pub fn offer_good(
     table: SequenceTracker,

@@ -1,4 +1,5 @@
 // Powers of two and low bits: each asks what its caller has tested. Our other crates call `low_bits`.
+// Stays: no plainer. `width ≤ 63` stands in three contracts, but a type of such widths would be made at each call of `low_bits` for that call alone.
 ghost use Rattle.std.specs.Prelude.{◌≡◌, ◌%◌, ◌^◌, ◌≤◌};
 ghost use Rattle.signed.specs.Inner.{low_bits};
 

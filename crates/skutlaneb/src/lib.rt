@@ -4,6 +4,7 @@
 // are taken, and what they do not make is refused by a number of docs/RULES.md. No call allocates. The two restores take 128 KB
 // of stack for arrays of their own; of the others `skut_write_date` keeps an array there, a date's
 // twenty bytes, and the sheets those of sixteen places.
+// Stays: calls in twos, by sequence and by second, each with both arrays: the C interface.
 #![tactic(auto)]
 
 pub mod bit_calls; // bit_calls.rt: bits in and out, sign extension

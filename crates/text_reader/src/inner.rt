@@ -30,6 +30,7 @@ fn with_digit(value: Option<u64>, d: u64) -> Option<u64>
 }
 
 // One or more digits, all that stand here: their number, where it is one of 64 bits.
+// Stays: no plainer as a `for`: the `while let` goes on as long as a digit is read, and counts nothing.
 #[tactic(auto, using(crate::proofs::Fronts::so_far_one, crate::proofs::Fronts::so_far_more, crate::proofs::Fronts::so_far_all, crate::proofs::Fronts::no_digits))]
 pub fn digits(s: &[u8]) -> Option<(Option<u64>, &[u8])>
     ensures { DigitsOf s.now (seen result) }

@@ -50,6 +50,7 @@ impl Told {
     }
 }
 
+// Stays: no plainer. It is `array_no` of the crate answers, which no crate of `vectors` uses, and gorilla would have it for these two callers.
 fn number_of(array: Array) -> u8 {
     match array {
         Array::Sequences => 0,
