@@ -9,7 +9,7 @@ use native.Mathlib.Omega.{arith}
 use borrow.Author.Tests.{lt-ltb, le-ltb, ltb-true, ltb-false, eq-eqb, eqb-true, eqb-false, ne_eqb}
 use lib.Arith.{lt_of_le-ne}
 use lib.Dec.{ltb, eqb}
-use Rattle.std.specs.Prelude.{None, Some}
+use Rattle.std.specs.Prelude.{Option, None, Some, unwrap_or}
 use Rattle.order.specs.First.{first_from, last_or, first, final}
 use Rattle.order.specs.Order.{drops}
 use Rattle.order.specs.Inner.{NoneBelow}
@@ -17,12 +17,14 @@ use Rattle.order.proofs.Bools.{other, true_false, below_or}
 use Rattle.order.proofs.First.{first_is, first_holds, first_least}
 use Rattle.order.proofs.Last.{final_is, final_holds, final-most, final-out}
 use Rattle.order.proofs.Order.{Order}
+use Rattle.search.specs.Inner.{among}
 use Rattle.search.specs.Keys.{greater}
-use Rattle.lookup.specs.Find.{partner, nothing, standing, place}
+use Rattle.lookup.specs.Find.{Partner, partner, nothing, standing, place}
 use Rattle.lookup.specs.Laws.{equal}
 use Rattle.lookup.specs.declared.FindOption.{FindOption}
 use Rattle.lookup.specs.declared.FindOption.TheVariants.{RoundUp, RoundDown}
 use Rattle.lookup.proofs.Place.{in_words_lem}
+use Rattle.lookup.proofs.Taken.{place_among}
 use Rattle.explaining.specs.Reason.{before, below, beside, some_equal, reason_of}
 use Rattle.explaining.specs.Laws.{EqualAt, Between, Holds, Parts, AllKeys, answer_by}
 use Rattle.explaining.specs.Inner.{answering}
@@ -155,43 +157,46 @@ module _ {K : Type 0} (lt : K → K → Bool) (O : Order lt) (d : K) (keys : Lis
   all_stand opt AfterLast h = parts_last lt O d keys n x sorted (n - 1) h.1
   all_stand opt Empty h = h
 
-  -- the position that answers is the lookup's
-  pub answering-place : (opt : FindOption) → answering (reason_of lt d opt keys n x) n ≡ place lt d opt keys n x
+  -- the position that answers is the lookup's, or both have none
+  pub answering-among : (opt : FindOption) → answering (reason_of lt d opt keys n x) ≡ among n (place lt d opt keys n x)
   unfolding first_from last_or
-  answering-place opt = empty (eqb n 0) refl
+  answering-among opt = empty (eqb n 0) refl
     where
-      none : (o : FindOption) → n ≡ 0 → n ≡ place lt d o keys n x
+      none : (o : FindOption) → n ≡ 0 → None ≡ among n (place lt d o keys n x)
       none RoundUp e = rw e
       none RoundDown e = rw e
 
-      asked : (b : Bool) → some_equal lt d keys n x ≡ b → answering (cond b (Exact (place lt d opt keys n x)) (beside opt (first (greater lt d keys x) n) n)) n ≡ place lt d opt keys n x
-      asked true e = refl
+      asked : (b : Bool) → some_equal lt d keys n x ≡ b → answering (cond b (Exact (place lt d opt keys n x)) (beside opt (first (greater lt d keys x) n) n)) ≡ among n (place lt d opt keys n x)
+      asked true e = rw (lt-ltb (place lt d opt keys n x) n (outer opt e).within)
       asked false e = parts-place lt O d keys n x (first (greater lt d keys x) n) (parted lt O d keys n x sorted e) opt
 
       empty : (b : Bool) → eqb n 0 ≡ b
-          → answering (cond b Empty (cond (some_equal lt d keys n x) (Exact (place lt d opt keys n x)) (beside opt (first (greater lt d keys x) n) n))) n ≡ place lt d opt keys n x
+          → answering (cond b Empty (cond (some_equal lt d keys n x) (Exact (place lt d opt keys n x)) (beside opt (first (greater lt d keys x) n) n))) ≡ among n (place lt d opt keys n x)
       empty true e = none opt (eqb-true n 0 e)
       empty false e = asked (some_equal lt d keys n x) refl
 
+  -- counted as n where there is none, it is the lookup's place
+  pub answering-place : (opt : FindOption) → unwrap_or (answering (reason_of lt d opt keys n x)) n ≡ place lt d opt keys n x
+  answering-place opt = ap (λ o. unwrap_or o n) (answering-among opt) ∙ place_among lt d keys n x opt
+
+-- what stands at a position, where there is one
+abbrev pub standing_at : {A : Type 0} → (ℕ → A) → Option ℕ → Partner A
+standing_at at (Some p) = partner (at p)
+standing_at at None = nothing
+
+module _ {A : Type 0} (at : ℕ → A) where
+  pub standing-among : (n p : ℕ) → standing at n p ≡ standing_at at (among n p)
+  standing-among n p = go (ltb p n)
+    where
+      go : (b : Bool) → cond b (partner (at p)) nothing ≡ standing_at at (cond b (Some p) None)
+      go true = refl
+      go false = refl
+
   -- and what stands there is the answer under the reason
-  module _ {A : Type 0} (at : ℕ → A) where
-    found : (p : ℕ) → p < n → standing at n p ≡ partner (at p)
-    found p l = rw (lt-ltb p n l)
-
-    none_found : standing at n n ≡ nothing
-    none_found = rw (le-ltb n n (le_refl n))
-
-    pub stands_by : (opt : FindOption) (r : Reason) → Holds lt d keys n x opt r → standing at n (answering r n) ≡ answer_by at r
-    stands_by opt (Exact p) E = found p E.within
-    stands_by opt (RoundedUp (Some b) a) h = found a h.1.within
-    stands_by opt (RoundedUp None a) h = found a h.1.within
-    stands_by opt (RoundedDown b (Some a)) h =
-        let e = h.1.adjacent in
-        let w = h.1.within in
-        found b (omega arith)
-    stands_by opt (RoundedDown b None) h =
-        let e = h.1.last_one in
-        found b (omega arith)
-    stands_by opt BeforeFirst h = none_found
-    stands_by opt AfterLast h = none_found
-    stands_by opt Empty h = none_found
+  pub stands_by : (r : Reason) → standing_at at (answering r) ≡ answer_by at r
+  stands_by (Exact p) = refl
+  stands_by (RoundedUp below above) = refl
+  stands_by (RoundedDown below above) = refl
+  stands_by BeforeFirst = refl
+  stands_by AfterLast = refl
+  stands_by Empty = refl

@@ -28,7 +28,7 @@ use Rattle.explaining.specs.Why.{Why, because}
 use Rattle.explaining.specs.Inner.{answering}
 use Rattle.explaining.specs.Laws.{Holds, Explains, ExplainsTs, ExplainsSeq, KeptWhyTs, KeptWhySeq}
 use Rattle.explaining.specs.declared.Reason.{Reason}
-use Rattle.explaining.proofs.Facts.{holds_is, is_holds, all_stand, answering-place, stands_by}
+use Rattle.explaining.proofs.Facts.{holds_is, is_holds, all_stand, answering-among, standing_at, standing-among, stands_by}
 
 module _ {A : Type 0} (R : Reason) (S : Partner A) where
   -- of a table that is checked first: what is given, and what is refused
@@ -59,8 +59,9 @@ module _ {K A : Type 0} (lt : K → K → Bool) (O : Order lt) (d : K) (keys : L
     answered_there = λ opt r g h.
         rw g
         (ap gave
-        (ap (standing at n) (sym (answering-place lt O d keys n x (sorted g) opt) ∙ ap (λ s. answering s n) (holds_is lt O d keys n x (sorted g) opt r h))
-        ∙ stands_by lt O d keys n x (sorted g) at opt r h));
+        (standing-among at n (place lt d opt keys n x)
+        ∙ ap (standing_at at) (sym (answering-among lt O d keys n x (sorted g) opt) ∙ ap answering (holds_is lt O d keys n x (sorted g) opt r h))
+        ∙ stands_by at r));
     all_keys = λ opt r g h. all_stand lt O d keys n x (sorted g) opt r h;
   }
 

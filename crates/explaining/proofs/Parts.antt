@@ -1,21 +1,23 @@
 -- Keys that part at a position, the smaller ones before it and the greater ones from it on; and keys of which one equals.
-use mathlib.Core.Path.{◌≡◌, refl, sym, ◌∙◌}
+use mathlib.Core.Path.{◌≡◌, refl}
 use mathlib.Core.Logic.{⊎_elim}
-use mathlib.Core.Bool.{Bool, true, false, not, cond, and-false}
+use mathlib.Core.Bool.{Bool, true, false, not, cond, ◌&&◌, and-false, false≢true}
 use mathlib.Core.List.{List}
 use Prim.Native.Nat.{ℕ, ◌-◌, ◌≤◌, ◌<◌}
 use native.Mathlib.Nat.{le_refl, pos_of_ne-zero}
 use native.Mathlib.Omega.{arith}
 use borrow.Author.Tests.{lt-ltb, le-ltb, ltb-false, eqb-true, eqb-false, ne_eqb}
+use lib.Arith.{lt_of_le-ne}
 use lib.Dec.{eqb}
 use lib.ListN.{get_or}
 use Rattle.order.specs.First.{first}
 use Rattle.order.specs.Order.{drops}
 use Rattle.order.specs.Inner.{NoneBelow}
-use Rattle.order.proofs.Bools.{below_or}
+use Rattle.order.proofs.Bools.{below_or, true_false}
 use Rattle.order.proofs.First.{first_is, first-none, first-within, first_holds, first_least, first_under, first_out}
-use Rattle.order.proofs.Last.{final_is, final-none}
+use Rattle.order.proofs.Last.{final_is, final-none, final-out}
 use Rattle.order.proofs.Order.{Order, rises}
+use Rattle.search.specs.Inner.{among}
 use Rattle.search.specs.Keys.{smaller, greater, first_not_below}
 use Rattle.lookup.specs.Find.{place}
 use Rattle.lookup.specs.Laws.{equal}
@@ -27,6 +29,12 @@ use Rattle.explaining.specs.Laws.{Between, BelowFirst, AboveLast, Parts}
 use Rattle.explaining.specs.Inner.{answering}
 use Rattle.explaining.specs.declared.Reason.TheVariants.{Exact, RoundedUp, RoundedDown, BeforeFirst, AfterLast}
 
+-- what equals is on neither side
+neither_side : (s g : Bool) → not s && not g ≡ true → (not s ≡ true) × (not g ≡ true)
+neither_side true g e = absurd (false≢true e)
+neither_side false true e = absurd (false≢true e)
+neither_side false false e = (refl, refl)
+
 pub some-keys : (n : ℕ) → 0 < n → eqb n 0 ≡ false
 some-keys n l = ne_eqb n 0 (λ e. omega arith)
 
@@ -36,6 +44,15 @@ module _ {K : Type 0} (lt : K → K → Bool) (O : Order lt) (d : K) (keys : Lis
   equal-reason j l e opt =
       let f : first (equal lt d keys x) n < n = omega (arith, first_least (equal lt d keys x) n j l e) in
       rw (some-keys n (omega arith), lt-ltb (first (equal lt d keys x) n) n f)
+
+  -- so a position answers
+  pub equal-answers : (j : ℕ) → j < n → equal lt d keys x j ≡ true → (opt : FindOption) → place lt d opt keys n x < n
+  equal-answers j l e RoundUp =
+      omega (arith, first_least (λ i. not (smaller lt d keys x i)) n j l (neither_side (smaller lt d keys x j) (greater lt d keys x j) e).0)
+  equal-answers j l e RoundDown =
+      ⊎_elim (λ (h : place lt d RoundDown keys n x < n). h)
+      (λ (h : n ≤ place lt d RoundDown keys n x). absurd (true_false _ (neither_side (smaller lt d keys x j) (greater lt d keys x j) e).1 (final-out (λ i. not (greater lt d keys x i)) n h j l)))
+      (below_or (place lt d RoundDown keys n x) n)
 
   module _ (p : ℕ) (P : Parts lt d keys n x p) where
     none-equals : (j : ℕ) → j < n → equal lt d keys x j ≡ false
@@ -54,25 +71,26 @@ module _ {K : Type 0} (lt : K → K → Bool) (O : Order lt) (d : K) (keys : Lis
     parts-reason some opt = rw (some-keys n some, no_equal, first-greater)
 
     -- the position that answers is the lookup's
-    pub parts-place : (opt : FindOption) → answering (beside opt p n) n ≡ place lt d opt keys n x
-    parts-place RoundUp = go (eqb p n) refl ∙ sym here
+    pub parts-place : (opt : FindOption) → answering (beside opt p n) ≡ among n (place lt d opt keys n x)
+    parts-place RoundUp = rw here (go (eqb p n) refl)
       where
         here : place lt d RoundUp keys n x ≡ p
         here = first_is (λ i. not (smaller lt d keys x i)) n p P.within (λ j h. rw (P.under j h)) (λ l. rw (O.asym x (get_or keys p d) (P.over p (le_refl p) l)))
 
-        go : (b : Bool) → eqb p n ≡ b → answering (cond b AfterLast (RoundedUp (before p) p)) n ≡ p
-        go true e = sym (eqb-true p n e)
-        go false e = refl
+        go : (b : Bool) → eqb p n ≡ b → answering (cond b AfterLast (RoundedUp (before p) p)) ≡ among n p
+        go true e = let f = eqb-true p n e in rw (le-ltb p n (omega arith))
+        go false e = rw (lt-ltb p n (lt_of_le-ne P.within (eqb-false p n e)))
     parts-place RoundDown = go (eqb p 0) refl
       where
-        go : (b : Bool) → eqb p 0 ≡ b → answering (cond b BeforeFirst (RoundedDown (p - 1) (below p n))) n ≡ place lt d RoundDown keys n x
-        go true e = sym (final-none (λ i. not (greater lt d keys x i)) n (λ j l. rw (P.over j (omega (arith, eqb-true p 0 e)) l)))
+        go : (b : Bool) → eqb p 0 ≡ b → answering (cond b BeforeFirst (RoundedDown (p - 1) (below p n))) ≡ among n (place lt d RoundDown keys n x)
+        go true e = rw (final-none (λ i. not (greater lt d keys x i)) n (λ j l. rw (P.over j (omega (arith, eqb-true p 0 e)) l)), le-ltb n n (le_refl n))
         go false e =
             let some : 0 < p = pos_of_ne-zero (eqb-false p 0 e) in
             let within : p - 1 < n = omega (arith, P.within) in
-            sym (final_is (λ i. not (greater lt d keys x i)) n (p - 1) within
+            let here = final_is (λ i. not (greater lt d keys x i)) n (p - 1) within
             (rw (O.asym (get_or keys (p - 1) d) x (P.under (p - 1) (omega arith))))
-            (λ j a l. rw (P.over j (omega arith) l)))
+            (λ j a l. rw (P.over j (omega arith) l)) in
+            rw (here, lt-ltb (p - 1) n within)
 
   module _ (sorted : NoneBelow (drops lt d keys) n) where
     -- up to a smaller key all are smaller, and from a greater one on all are greater

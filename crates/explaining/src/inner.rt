@@ -36,7 +36,7 @@ pub fn reason<K: Key>(keys: &[K], n: usize, x: K, find_opt: FindOption) -> Reaso
         return beside(p, n, find_opt);
     }
     let at = place(keys, n, x, find_opt);
-    Reason::Exact(at.unwrap_or(n))
+    Reason::Exact(at.unwrap())
 }
 
 // The position before p, where there is one.
@@ -75,16 +75,14 @@ pub(crate) fn beside(p: usize, n: usize, find_opt: FindOption) -> Reason
     }
 }
 
-// The position that answers under a reason, or n.
-pub fn answering(reason: Reason, n: usize) -> usize
-    ensures { result ≡ own.answering reason n }
+// The position that answers under a reason, where one does.
+pub fn answering(reason: Reason) -> Option<usize>
+    ensures { result ≡ own.answering reason }
 {
     match reason {
-        Reason::Exact(p) => p,
-        Reason::RoundedUp(_, above) => above,
-        Reason::RoundedDown(lower, _) => lower,
-        Reason::BeforeFirst => n,
-        Reason::AfterLast => n,
-        Reason::Empty => n,
+        Reason::Exact(p) => Some(p),
+        Reason::RoundedUp(_, above) => Some(above),
+        Reason::RoundedDown(lower, _) => Some(lower),
+        Reason::BeforeFirst | Reason::AfterLast | Reason::Empty => None,
     }
 }

@@ -46,8 +46,7 @@ pub fn why_ts(
     check(table, seqs, secs)?;
     let n = table.count;
     let reason = inner::reason(seqs, n, seq.0, find_opt);
-    let at = inner::answering(reason, n);
-    let answer = if at < n { Some(Second(secs[at])) } else { None };
+    let answer = inner::answering(reason).map(|at| Second(secs[at]));
     Ok(Why { reason, answer })
 }
 
@@ -64,7 +63,6 @@ pub fn why_seq(
     check(table, seqs, secs)?;
     let n = table.count;
     let reason = inner::reason(secs, n, ts.0, find_opt);
-    let at = inner::answering(reason, n);
-    let answer = if at < n { Some(Seq(seqs[at])) } else { None };
+    let answer = inner::answering(reason).map(|at| Seq(seqs[at]));
     Ok(Why { reason, answer })
 }
