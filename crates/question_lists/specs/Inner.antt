@@ -11,9 +11,9 @@ use Rattle.question_lists.specs.Each.{Filled, ts_place, seq_place}
 abbrev pub AsLong : {A B C : Type 0} → List A → List B → List C → Type 0
 AsLong keys answers found = (length keys ≡ length answers) × (length keys ≡ length found)
 
--- the first i questions are answered, from the first n pairs of a good table
-abbrev pub FilledTs : List ℕ → List ℤ → ℕ → FindOption → List ℕ → ℕ → List ℤ → List ℕ → List ℤ → List ℕ → Type 0
-FilledTs seqs secs n opt keys = Filled (λ key. gave (ts_partner seqs secs n key opt)) ts_stands (seq_at keys) ts_place
+-- the first i questions are answered, from the pairs
+abbrev pub FilledTs : List ℕ → List ℤ → FindOption → List ℕ → ℕ → List ℤ → List ℕ → List ℤ → List ℕ → Type 0
+FilledTs seqs secs opt keys = Filled (λ key. gave (ts_partner seqs secs key opt)) ts_stands (seq_at keys) ts_place
 
-abbrev pub FilledSeq : List ℕ → List ℤ → ℕ → FindOption → List ℤ → ℕ → List ℕ → List ℕ → List ℕ → List ℕ → Type 0
-FilledSeq seqs secs n opt keys = Filled (λ key. gave (seq_partner seqs secs n key opt)) seq_stands (second_at keys) seq_place
+abbrev pub FilledSeq : List ℕ → List ℤ → FindOption → List ℤ → ℕ → List ℕ → List ℕ → List ℕ → List ℕ → Type 0
+FilledSeq seqs secs opt keys = Filled (λ key. gave (seq_partner seqs secs key opt)) seq_stands (second_at keys) seq_place

@@ -7,6 +7,7 @@ ghost use Rattle.question_lists.specs.Each as rules;
 use lookup::FindOption;
 use questions::Refusal;
 use questions::inner::judged;
+use questions::pairs::Pairs;
 use tracker::SequenceTracker;
 
 mod by_second; // by_second.rt: the answers to questions by second
@@ -35,7 +36,8 @@ pub fn find_ts_each(
     let m = keys.len();
     let differ = differ(m, answers.len(), found.len());
     judged(table, seqs, secs, differ, Refusal::LengthsDiffer)?;
-    by_seq::answers(seqs, secs, table.count, keys, answers, found, find_opt);
+    let pairs = Pairs::of(table, seqs, secs);
+    by_seq::answers(&pairs, keys, answers, found, find_opt);
     Ok(())
 }
 
@@ -55,6 +57,7 @@ pub fn find_seq_each(
     let m = keys.len();
     let differ = differ(m, answers.len(), found.len());
     judged(table, seqs, secs, differ, Refusal::LengthsDiffer)?;
-    by_second::answers(seqs, secs, table.count, keys, answers, found, find_opt);
+    let pairs = Pairs::of(table, seqs, secs);
+    by_second::answers(&pairs, keys, answers, found, find_opt);
     Ok(())
 }

@@ -8,9 +8,9 @@ use Rattle.sheets.specs.Sheet.{Filled, ts_sheet, seq_sheet}
 use Rattle.sheets.specs.declared.TsSheet.{TsSheet}
 use Rattle.sheets.specs.declared.SeqSheet.{SeqSheet}
 
--- the first i questions are answered, from the first n pairs of a good table
-abbrev pub FilledTs : List ℕ → List ℤ → ℕ → FindOption → ℕ → TsSheet → TsSheet → Type 0
-FilledTs seqs secs n opt i s back = Filled (record { 0 = 0 }) (λ key. gave (ts_partner seqs secs n key opt)) ts_stands i (ts_sheet s) (ts_sheet back)
+-- the first i questions are answered, from the pairs
+abbrev pub FilledTs : List ℕ → List ℤ → FindOption → ℕ → TsSheet → TsSheet → Type 0
+FilledTs seqs secs opt i s back = Filled (record { 0 = 0 }) (λ key. gave (ts_partner seqs secs key opt)) ts_stands i (ts_sheet s) (ts_sheet back)
 
-abbrev pub FilledSeq : List ℕ → List ℤ → ℕ → FindOption → ℕ → SeqSheet → SeqSheet → Type 0
-FilledSeq seqs secs n opt i s back = Filled (record { 0 = pos 0 }) (λ key. gave (seq_partner seqs secs n key opt)) seq_stands i (seq_sheet s) (seq_sheet back)
+abbrev pub FilledSeq : List ℕ → List ℤ → FindOption → ℕ → SeqSheet → SeqSheet → Type 0
+FilledSeq seqs secs opt i s back = Filled (record { 0 = pos 0 }) (λ key. gave (seq_partner seqs secs key opt)) seq_stands i (seq_sheet s) (seq_sheet back)

@@ -5,6 +5,7 @@ ghost use Rattle.sheets.specs.Sheet.{FindsTs16, FindsSeq16};
 
 use lookup::FindOption;
 use questions::inner::judged;
+use questions::pairs::Pairs;
 use questions::{Refusal, SeqAnswer, TsAnswer};
 use tracker::{Second, Seq, SequenceTracker};
 
@@ -58,7 +59,7 @@ pub fn find_ts_16(
 {
     let asked = judged(table, seqs, secs, sheet.used > PLACES, Refusal::TooMany);
     let back = match asked {
-        Ok(()) => by_seq::answers(seqs, secs, table.count, sheet, find_opt),
+        Ok(()) => by_seq::answers(&Pairs::of(table, seqs, secs), sheet, find_opt),
         Err(_) => sheet,
     };
     TsSheetBack { asked, sheet: back }
@@ -76,7 +77,7 @@ pub fn find_seq_16(
 {
     let asked = judged(table, seqs, secs, sheet.used > PLACES, Refusal::TooMany);
     let back = match asked {
-        Ok(()) => by_second::answers(seqs, secs, table.count, sheet, find_opt),
+        Ok(()) => by_second::answers(&Pairs::of(table, seqs, secs), sheet, find_opt),
         Err(_) => sheet,
     };
     SeqSheetBack { asked, sheet: back }

@@ -3,4 +3,4 @@ use Rattle.question_lists.specs.Inner.{FilledTs}
 use Rattle.question_lists.proofs.by_seq.answers.Given as goal
 
 abbrev pub invariant-loop-i : goal.invariant-loop-i
-invariant-loop-i l = FilledTs l.seqs l.secs l.n l.find_opt l.keys l.i l.initial.answers l.initial.found l.answers l.found × (l.i ≤ l.m)
+invariant-loop-i l = FilledTs l.pairs.seqs.now l.pairs.secs.now l.find_opt l.keys l.i l.initial.answers l.initial.found l.answers l.found × (l.i ≤ l.m)

@@ -3,4 +3,4 @@ use Rattle.sheets.specs.Inner.{FilledTs}
 use Rattle.sheets.proofs.by_seq.answers.Given as goal
 
 abbrev pub invariant-loop-i : goal.invariant-loop-i
-invariant-loop-i l = FilledTs l.seqs l.secs l.n l.find_opt l.i l.initial.filled l.filled × (l.i ≤ l.used)
+invariant-loop-i l = FilledTs l.pairs.seqs.now l.pairs.secs.now l.find_opt l.i l.initial.filled l.filled × (l.i ≤ l.used)
