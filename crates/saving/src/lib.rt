@@ -34,6 +34,7 @@ impl From<encoder::Refusal> for Refusal {
     }
 }
 
+// Stays: two calls of one shape, no plainer as one over the encoder, which would ask for the encoder's contract as a clause to share three lines.
 // The bytes that the Rust writes. Gives how many they are.
 #[tactic(auto, using(crate::proofs::Passing::passes))]
 pub fn save(

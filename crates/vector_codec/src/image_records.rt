@@ -1,5 +1,4 @@
 // Records of images that are read: D.
-use vector_bodies::lists::values_so;
 use vector_bytes::Body;
 use vector_outcomes::{Told, measured_so, read_so, unread_so};
 use vector_tally::{Question, Tally};
@@ -11,7 +10,7 @@ fn decoded_so(bytes: &[u8], told: Option<Told>, mut body: Body<'_>) -> bool {
     }
     body.part(2);
     let n = usize::from(body.read::<u16>());
-    read_so(bytes, n, |seqs, secs| values_so(body, seqs, secs))
+    read_so(bytes, n, body)
 }
 
 pub fn image(mut body: Body<'_>, tally: &mut Tally) {

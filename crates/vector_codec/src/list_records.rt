@@ -1,10 +1,10 @@
 // Records of lists that are encoded: E and Y.
 use encoder::Refusal;
-use vector_bodies::digest::{image_so, pairs_so};
-use vector_bodies::lists::{LISTED, MOST, make, rule_of, values_so};
+use vector_bodies::digest::image_so;
+use vector_bodies::lists::{LISTED, MOST, make, rule_of};
 use vector_bytes::Body;
 use vector_lists::{first, read_pairs};
-use vector_outcomes::read_so;
+use vector_outcomes::{brief_so, read_so};
 use vector_tally::{Question, Tally};
 
 // Bytes that hold the image of every list that a rule makes: 36 bits a code.
@@ -40,7 +40,7 @@ pub fn listed(mut body: Body<'_>, tally: &mut Tally) {
     let mut strict = [255u8; 4096];
     let firm = encoder::encode_strict(seqs, secs, &mut strict);
     let kept: &[u8] = if same { want } else { &[] };
-    let back = read_so(want, n, |seqs, secs| values_so(listed, seqs, secs));
+    let back = read_so(want, n, listed);
     tally.note(
         Question::Readbacks,
         (image_of(firm, &strict) == Some(kept)) & (back == same),
@@ -63,7 +63,7 @@ pub fn ruled(mut body: Body<'_>, tally: &mut Tally) {
     tally.note(Question::Encodings, image_so(imaged, image));
     tally.note(
         Question::Decodings,
-        read_so(image, seqs.len(), |seqs, secs| pairs_so(body, seqs, secs)),
+        brief_so(image, seqs.len(), body),
     );
     let mut strict = [0u8; ROOM];
     let firm = encoder::encode_strict(seqs, secs, &mut strict);

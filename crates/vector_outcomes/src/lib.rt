@@ -8,6 +8,8 @@ ghost use Rattle.vector_outcomes.specs.Told.{told_at};
 use bits::Place;
 use decoder::Refusal;
 use gorilla::Array;
+use vector_bodies::digest::pairs_so;
+use vector_bodies::lists::values_so;
 use vector_bytes::Body;
 use vector_lists::first;
 
@@ -136,7 +138,7 @@ pub fn unread_so(bytes: &[u8], told: Option<Told>, body: Body<'_>) -> bool {
 }
 
 // Whether it gives n pairs, and they are so.
-pub fn read_so<F: FnOnce(&[u64], &[i64]) -> bool>(bytes: &[u8], n: usize, pairs_so: F) -> bool
+fn given_so<F: FnOnce(&[u64], &[i64]) -> bool>(bytes: &[u8], n: usize, pairs_so: F) -> bool
     requires { F.IsAlwaysCallable pairs_so }
 {
     let mut seqs = [0u64; 8192];
@@ -144,4 +146,14 @@ pub fn read_so<F: FnOnce(&[u64], &[i64]) -> bool>(bytes: &[u8], n: usize, pairs_
     let read = decoder::decode(bytes, &mut seqs, &mut secs);
     let agreed = pairs_so(first(&seqs, n), first(&secs, n));
     agreed & read.is_ok_and(|count| count == n)
+}
+
+// Whether it gives the n pairs that a body goes on with, by their values.
+pub fn read_so(bytes: &[u8], n: usize, body: Body<'_>) -> bool {
+    given_so(bytes, n, |seqs, secs| values_so(body, seqs, secs))
+}
+
+// The same by their digests.
+pub fn brief_so(bytes: &[u8], n: usize, body: Body<'_>) -> bool {
+    given_so(bytes, n, |seqs, secs| pairs_so(body, seqs, secs))
 }

@@ -70,7 +70,10 @@ fn is_counted(kind: Kind, b: &[u8]) -> bool {
     }
 }
 
-// Whether a record is as compare/FORMAT.md has it.
-pub fn is_whole(kind: Kind, b: &[u8]) -> bool {
-    (b.len() <= LONGEST) & is_counted(kind, b)
+// Whether a record is as compare/FORMAT.md has it: its letter names a kind, and its body is one of that kind.
+pub fn is_whole(letter: u8, b: &[u8]) -> bool {
+    match Kind::try_from(letter) {
+        Ok(kind) => (b.len() <= LONGEST) & is_counted(kind, b),
+        Err(_) => false,
+    }
 }

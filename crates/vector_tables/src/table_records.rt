@@ -157,7 +157,7 @@ fn refused_by(number: u8) -> Option<u64> {
     }
 }
 
-// Stays, here and below: there is no heap, so the pairs stand in arrays of the most that there may be.
+// Stays: there is no heap, so the pairs stand in arrays of the most that there may be, here and below.
 pub fn run(
     mut body: Body<'_>,
     table: SequenceTracker,

@@ -71,10 +71,10 @@ fn next_record<'a>(input: &mut Body<'a>) -> Result<(Kind, Body<'a>), Damage> {
         return Err(Damage::Cut);
     }
     let left = input.part(length);
-    let kind = Kind::try_from(letter)?;
-    if !is_whole(kind, left) {
+    if !is_whole(letter, left) {
         return Err(Damage::Unknown);
     }
+    let kind = Kind::try_from(letter)?;
     Ok((kind, Body { left }))
 }
 
