@@ -213,7 +213,7 @@ struct skut_table_answer skut_offer(struct skut_state state, uint64_t *seqs, siz
 
 /* Offers pairs in order, from two lists of one length, up to the first that is refused (31, 16, 17). Lists of different length are refused before all else: 18.
  * Where a state is returned, the numbers of `tally` add up to the length or, with 31, 16 or 17, to the position that is told. With 16 or 17 the state counts that
- * refusal; with 31 it is as the pairs before left it. Stack: 896 bytes; until memcpy is found,
+ * refusal; with 31 it is as the pairs before left it. Stack: 1,024 bytes; until memcpy is found,
  * as in skut_restore, more by what the dynamic linker takes. */
 struct skut_table_answer skut_offer_pairs(struct skut_state state, uint64_t *seqs, size_t seqs_len, int64_t *secs, size_t secs_len,
                                           const uint64_t *from_seqs, size_t from_seqs_len, const int64_t *from_secs, size_t from_secs_len);
