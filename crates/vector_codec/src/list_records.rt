@@ -61,10 +61,7 @@ pub fn ruled(mut body: Body<'_>, tally: &mut Tally) {
     let written = encoder::encode(seqs, secs, &mut out);
     let image = image_of(written, &out).unwrap_or(&[]);
     tally.note(Question::Encodings, image_so(imaged, image));
-    tally.note(
-        Question::Decodings,
-        brief_so(image, seqs.len(), body),
-    );
+    tally.note(Question::Decodings, brief_so(image, seqs.len(), body));
     let mut strict = [0u8; ROOM];
     let firm = encoder::encode_strict(seqs, secs, &mut strict);
     let agreed = image_of(firm, &strict).is_some_and(|image| {
