@@ -8,8 +8,8 @@ ghost use Rattle.explaining.specs.Inner as own;
 use crate::Reason;
 use lookup::FindOption;
 use lookup::inner::place;
-use order::key::Key;
-use search::sorted::Sorted;
+use order::inner::key::Key;
+use search::inner::sorted::Sorted;
 
 // Whether the key at p is above x.
 fn above<K: Key>(keys: &[K], p: usize, x: K) -> bool

@@ -4,8 +4,8 @@ ghost use Rattle.search.specs.Inner.{among, InOrder};
 ghost use Rattle.lookup.specs.Find.{place};
 
 use crate::FindOption;
-use order::key::Key;
-use search::sorted::Sorted;
+use order::inner::key::Key;
+use search::inner::sorted::Sorted;
 
 // The position that answers, among the first n keys.
 pub fn place<K: Key>(keys: &[K], n: usize, x: K, find_opt: FindOption) -> Option<usize>

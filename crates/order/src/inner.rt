@@ -1,12 +1,14 @@
-// The first place of an array that breaks a rule.
+// For our own crates: the first place of an array that breaks a rule.
 ghost use Rattle.std.specs.Prelude.{◌≡◌, length, pos};
 ghost use Rattle.std.specs.Int.Signed.{lt_z};
 ghost use Rattle.order.specs.First.{found};
 ghost use Rattle.order.specs.Order.{drops, sec_outside};
 ghost use Rattle.order.specs.Inner.{NoneBelow};
 
-use crate::key::Key;
+use crate::inner::key::Key;
 use crate::steps;
+
+pub mod key; // key.rt: what an array is ordered by
 
 // The first key below the one before.
 pub fn first_drop<K: Key>(keys: &[K]) -> Option<usize>

@@ -2,5 +2,4 @@
 #![tactic(auto)]
 
 pub mod inner; // inner.rt: the first place of an array that breaks a rule
-pub mod key; // key.rt: what an array is ordered by
 mod steps; // steps.rt: four at a time

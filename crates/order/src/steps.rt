@@ -3,7 +3,7 @@ ghost use Rattle.std.specs.Prelude.{◌≡◌, false, ◌+◌, ◌≤◌, ◌<�
 ghost use Rattle.order.specs.Order.{drops};
 ghost use Rattle.order.specs.Inner.{NoneBelow};
 
-use crate::key::Key;
+use crate::inner::key::Key;
 
 // Whether the key at i is below the one before.
 pub(crate) fn drops_at<K: Key>(keys: &[K], i: usize) -> bool

@@ -3,7 +3,7 @@ ghost use Rattle.std.specs.Prelude.{length};
 ghost use Rattle.question_lists.specs.Inner.{FilledTs, AsLong};
 
 use lookup::FindOption;
-use questions::pairs::Pairs;
+use questions::inner::pairs::Pairs;
 use tracker::Seq;
 
 pub(crate) fn answers(

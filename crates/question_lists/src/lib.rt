@@ -7,7 +7,7 @@ ghost use Rattle.question_lists.specs.Each as rules;
 use lookup::FindOption;
 use questions::Refusal;
 use questions::inner::judged;
-use questions::pairs::Pairs;
+use questions::inner::pairs::Pairs;
 use tracker::SequenceTracker;
 
 mod by_second; // by_second.rt: the answers to questions by second

@@ -7,6 +7,8 @@ ghost use Rattle.questions.specs.Asked.{told, told_asked};
 use crate::Refusal;
 use tracker::{SequenceTracker, check};
 
+pub mod pairs; // pairs.rt: the kept pairs of a good table, which answer
+
 // What such a call tells: its own refusal where there is one, else what the one check of the table says, for all its questions.
 pub fn judged(
     table: SequenceTracker,

@@ -7,8 +7,7 @@ ghost use Rattle.questions.specs.declared.Refusal.TheVariants.{Table};
 
 use tracker::{Second, Seq};
 
-pub mod inner; // inner.rt: what our own crates call
-pub mod pairs; // pairs.rt: the kept pairs of a good table, which answer
+pub mod inner; // inner.rt: what our own crates call, and the kept pairs of a good table, which answer
 
 // Stays: a mark beside the partner in both answers, and one struct for each, since they cross to C as they stand (#[repr(C)]).
 // The answer to a question by sequence: 1 and the second, or 0 and the second 0 where nothing is answered.

@@ -1,4 +1,4 @@
-// Binary searches in an array that does not drop. For our own crates: the public lookups stand in the crate `lookup`.
+// Binary searches in an array that does not drop. All is in `inner`: the public lookups stand in the crate `lookup`.
 #![tactic(auto)]
 
-pub mod sorted; // sorted.rt: keys that do not drop, and the searches among them
+pub mod inner; // inner.rt: keys that do not drop, and the searches among them, for our own crates

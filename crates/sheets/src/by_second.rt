@@ -4,7 +4,7 @@ ghost use Rattle.sheets.specs.Inner.{FilledSeq};
 
 use crate::SeqSheet;
 use lookup::FindOption;
-use questions::pairs::Pairs;
+use questions::inner::pairs::Pairs;
 
 pub(crate) fn answers(pairs: &Pairs, sheet: SeqSheet, find_opt: FindOption) -> SeqSheet
     requires { sheet.used ≤ 16 }

@@ -4,7 +4,7 @@ ghost use Rattle.sheets.specs.Inner.{FilledTs};
 
 use crate::TsSheet;
 use lookup::FindOption;
-use questions::pairs::Pairs;
+use questions::inner::pairs::Pairs;
 
 // A `used` above 16 would read past the keys, so that the caller has refused it.
 pub(crate) fn answers(pairs: &Pairs, sheet: TsSheet, find_opt: FindOption) -> TsSheet

@@ -5,7 +5,7 @@ ghost use Rattle.sheets.specs.Sheet.{FindsTs16, FindsSeq16};
 
 use lookup::FindOption;
 use questions::inner::judged;
-use questions::pairs::Pairs;
+use questions::inner::pairs::Pairs;
 use questions::{Refusal, SeqAnswer, TsAnswer};
 use tracker::{Second, Seq, SequenceTracker};
 

@@ -1,7 +1,7 @@
 use Rattle.std.proofs.Common.{length, not, true, rules, ◌∙◌}
 use Rattle.std.proofs.lemmas.List.Sorted.{IsPartitionPoint-from_clause}
 use Rattle.search.proofs.Bound.{falls, parted, cut, twice}
-use Rattle.search.proofs.sorted.Sorted.first_above.Goals as goal
+use Rattle.search.proofs.inner.sorted.Sorted.first_above.Goals as goal
 
 pub returns-then-is_known : goal.returns-then-is_known
 returns-then-is_known g c =

@@ -1,7 +1,7 @@
 use Rattle.std.proofs.Common.{length, false, rules}
 use Rattle.std.proofs.lemmas.List.Sorted.{IsPartitionPoint-from_clause}
 use Rattle.search.proofs.Bound.{falls, parted, cut}
-use Rattle.search.proofs.sorted.Sorted.first_not_below.Goals as goal
+use Rattle.search.proofs.inner.sorted.Sorted.first_not_below.Goals as goal
 
 pub returns : goal.returns
 returns g c =

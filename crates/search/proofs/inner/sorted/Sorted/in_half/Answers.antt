@@ -2,7 +2,7 @@ use denote.Param.{value_of, number}
 use Rattle.std.proofs.Common.{◌≡◌, true, false, sym, ◌∙◌, not, nat_eq, length}
 use Rattle.search.specs.Inner.{passes}
 use Rattle.search.proofs.Bound.{falls, upper_half, lower_half}
-use Rattle.search.proofs.sorted.Sorted.in_half.Goals as goal
+use Rattle.search.proofs.inner.sorted.Sorted.in_half.Goals as goal
 
 pub returns-then-passes : goal.returns-then-passes
 returns-then-passes g c =

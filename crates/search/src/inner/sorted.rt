@@ -5,7 +5,7 @@ ghost use Rattle.order.specs.Inner.{NoneBelow};
 ghost use Rattle.search.specs.Keys.{first_not_below, last_not_above};
 ghost use Rattle.search.specs.Inner.{among, passes, sought, first_above, Bracket};
 
-use order::key::Key;
+use order::inner::key::Key;
 
 // Keys that do not drop.
 #[derive(Drop)]

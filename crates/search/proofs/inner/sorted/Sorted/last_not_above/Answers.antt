@@ -1,6 +1,6 @@
 use Rattle.std.proofs.Common.{length}
 use Rattle.search.proofs.Above.{before_past}
-use Rattle.search.proofs.sorted.Sorted.last_not_above.Goals as goal
+use Rattle.search.proofs.inner.sorted.Sorted.last_not_above.Goals as goal
 
 pub returns : goal.returns
 returns g c =
