@@ -1,6 +1,7 @@
 -- Runs of zero codes: values that are each above the one before by the delta that led to the first of them. Assumes nothing.
-use Rattle.std.proofs.Common.{◌≡◌, ℕ, ◌+◌, ◌<◌, ◌≤◌, List, ◌∷◌, ◌++◌, map, length, get_or, drop, ℤ, pos, w64, SFits, refl, sym, ap, ap₂, ◌∙◌, subst, arith, append_assoc, length-append, drop_of_length-le}
+use Rattle.std.proofs.Common.{◌≡◌, ℕ, ◌+◌, ◌-◌, ◌<◌, ◌≤◌, List, ◌∷◌, ◌++◌, map, length, get_or, drop, ℤ, pos, w64, SFits, refl, sym, ap, ap₂, ◌∙◌, subst, arith, append_assoc, length-append, drop_of_length-le, drop-cons, add-one}
 use Rattle.std.proofs.lemmas.List.{map-append}
+use native.Mathlib.Nat.{add-zero, add_assoc}
 use lib.ListN.{length-map}
 use lib.Pow.{pow_pos}
 use mir.Facts.{Fits-of_z}
@@ -67,3 +68,28 @@ module _ {A : Type 0} (f : A → ℤ) (values run rest : List A) (cut : values �
       let zeros : Leads (map f values) t (nat_bits 7 0) (map f rest) (record { prev = v; delta = t.delta }) =
       r.zeros ∙ ap₂ (λ (n : ℕ) (l : List ℤ). nat_bits n 0 ++ codes_bits v t.delta l) e none in
       (omega (arith, ap length cut, length-append run rest, h, length-map values f, length-map rest f), zeros)
+
+-- ---- the same by index: n values from index i on, of which v is the last, or p where there is none
+pub record RunAt (xs : List ℤ) (i : ℕ) (p e : ℤ) (n : ℕ) (v : ℤ) : Type 0 where
+  pub fits : SFits w64 v
+  pub last : 1 ≤ n → v ≡ get_or xs (i + n - 1) (pos 0)
+  pub zeros : Leads (drop i xs) (record { prev = p; delta = e }) (nat_bits n 0) (drop (i + n) xs) (record { prev = v; delta = e })
+
+pub run_none : (xs : List ℤ) (i : ℕ) (p e : ℤ) → SFits w64 p → RunAt xs i p e 0 p
+unfolding nat_bits
+run_none xs i p e f = record { fits = f; last = λ h. absurd (omega (arith, h)); zeros = ap (λ (k : ℕ). codes_bits p e (drop k xs)) (sym (add-zero i)) }
+
+pub run_more : (xs : List ℤ) (i : ℕ) (p e : ℤ) (n : ℕ) (v x : ℤ) → RunAt xs i p e n v → SFits w64 e → i + n < length xs → x ≡ add_s v e → get_or xs (i + n) (pos 0) ≡ x
+    → RunAt xs i p e (n + 1) x
+run_more xs i p e n v x r g h k l =
+    let t : Track = record { prev = p; delta = e } in
+    let rest : List ℤ = drop (i + (n + 1)) xs in
+    let here : drop (i + n) xs ≡ x ∷ rest =
+    drop-cons xs (i + n) (pos 0) h ∙ ap₂ (λ (y : ℤ) (m : ℕ). y ∷ drop m xs) l (sym (add-one (i + n)) ∙ add_assoc i n 1) in
+    let before : Zeros (drop i xs) t n v (x ∷ rest) = record {
+      fits = r.fits;
+      zeros = subst (λ (ys : List ℤ). Leads (drop i xs) t (nat_bits n 0) ys (record { prev = v; delta = e })) here r.zeros;
+    } in
+    let after = zeros_more (drop i xs) t n v x rest before g k in
+    let j : i + n ≡ i + (n + 1) - 1 = omega arith in
+    record { fits = after.fits; last = λ _. sym l ∙ ap (λ (m : ℕ). get_or xs m (pos 0)) j; zeros = after.zeros }

@@ -39,10 +39,13 @@ same_refusal (Table r) (Encoder q) h = absurd (two_layers r q (ap number h))
 same_refusal (Encoder r) (Table q) h = absurd (two_layers q r (ap number (sym h)))
 same_refusal (Encoder r) (Encoder q) h = ap Encoder (refusal-told r q h)
 
+save-told : (a b : Result ℕ Refusal) → told_save a ≡ told_save b → a ≡ b
+save-told a b h = one_result told_refusal same_refusal a b h
+
 module _ (table : SequenceTracker) (seqs : List ℕ) (secs : List ℤ) (out : List ℕ) where
   same-buffer : (a b : Result ℕ Refusal) (x y : List ℕ) → a ≡ b → x ≡ filled (told_save a) (kept_image table seqs secs) out → y ≡ filled (told_save b) (kept_image table seqs secs) out → x ≡ y
   same-buffer a b x y e f g = f ∙ ap (λ (s : Result ℕ Refusal). filled (told_save s) (kept_image table seqs secs) out) e ∙ sym g
 
   -- `save` and `save_strict`, each by its rule
   pub one-save : (rule : SequenceTracker → List ℕ → List ℤ → ℕ → Told ℕ) (a b : Result ℕ Refusal) (x y : List ℕ) → Saves rule table seqs secs out a x → Saves rule table seqs secs out b y → (a ≡ b) × (x ≡ y)
-  one-save rule a b x y f g = let e = one_result told_refusal same_refusal a b (f.0 ∙ sym g.0) in (e, same-buffer a b x y e f.1 g.1)
+  one-save rule a b x y f g = let e = save-told a b (f.0 ∙ sym g.0) in (e, same-buffer a b x y e f.1 g.1)

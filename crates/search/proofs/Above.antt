@@ -1,16 +1,20 @@
--- The last key that is not above x stands before the first that is.
-use mathlib.Core.Path.{◌≡◌, sym, ◌∙◌}
-use mathlib.Core.Bool.{Bool, true, not, cond}
+-- The last key that is not above x stands before the first that is; and no second of the domain is above the greatest number.
+use mathlib.Core.Path.{◌≡◌, refl, sym, ◌∙◌}
+use mathlib.Core.Bool.{Bool, true, false, not, cond}
 use mathlib.Core.List.{List}
 use Prim.Native.Nat.{ℕ, ◌-◌, ◌≤◌, ◌<◌}
 use native.Mathlib.Nat.{le_refl}
 use native.Mathlib.Omega.{arith}
-use borrow.Author.Tests.{lt-ltb, le-ltb}
+use borrow.Author.Tests.{lt-ltb, le-ltb, ltb-false}
 use lib.Dec.{ltb}
 use Rattle.std.specs.Prelude.{Option, Some, None, SomeIff}
+use lib.IntN.{ℤ, pos, negsuc}
 use lib.ListN.{get_or}
+use lib.Signed.{lt_z}
+use Rattle.limits.specs.Domain.{last_second, first_second, outside}
 use Rattle.order.specs.Order.{drops}
 use Rattle.order.specs.Inner.{NoneBelow}
+use Rattle.order.proofs.Bools.{neither}
 use Rattle.order.proofs.First.{first-within, first_holds, first_under}
 use Rattle.order.proofs.Last.{final_is, final-none}
 use Rattle.order.proofs.Order.{Order, rises}
@@ -41,3 +45,8 @@ module _ {K : Type 0} (lt : K → K → Bool) (d : K) (keys : List K) (n : ℕ) 
         let w : z < n = omega (arith, first-within (greater lt d keys x) n, at.0, at.1) in
         let q : z ≡ last_not_above lt d keys n x = at.1 ∙ one-before p e (omega (arith, at.0)) in
         rw (← q, lt-ltb z n w)
+
+-- no second of the domain is above the greatest number
+pub inside-most : (z : ℤ) → outside z ≡ false → lt_z (pos 9223372036854775807) z ≡ false
+inside-most (pos a) h = le-ltb 9223372036854775807 a (omega (arith, ltb-false 253402300799 a (neither (lt_z (pos a) first_second) (lt_z last_second (pos a)) h).1))
+inside-most (negsuc a) h = refl
