@@ -33,7 +33,8 @@ pub fn print<W: io::Write>(to: &mut W, text: &[u8], size: usize) -> io::Result<(
 }
 
 // Reports on standard error what failed, and why.
-pub fn report_failure(rt: &impl Eprint, what: &str, why: io::Error) {
+pub fn report_failure(rt: &impl Eprint, what: &[u8], why: io::Error) {
+    let what = what.escape_ascii();
     eprintln!(rt; "{what}: {why}").ok();
 }
 
@@ -78,7 +79,7 @@ pub fn run<P: Program<ROOM>, const ROOM: usize>(
         } else {
             P::UNWRITTEN
         };
-        report_failure(rt, what, why);
+        report_failure(rt, what.as_bytes(), why);
     }
     over
 }

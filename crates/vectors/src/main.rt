@@ -28,11 +28,11 @@ fn run(
     let mut tally = Tally::new();
     let over = input::read_all(&mut rt.reader(), bytes);
     if let Some(why) = over.failure() {
-        report_failure(rt, "vectors: standard input", why);
+        report_failure(rt, b"vectors: standard input", why);
         return;
     }
     let replayed = stored::replay_all(first(bytes, over.bytes()), seqs, secs, &mut tally);
     if let Err(why) = verdict::print(rt, replayed, &tally) {
-        report_failure(rt, "vectors: standard output", why);
+        report_failure(rt, b"vectors: standard output", why);
     }
 }
