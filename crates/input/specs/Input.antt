@@ -2,7 +2,7 @@
 use Rattle.std.specs.Prelude.{ℕ, ◌≤◌, ◌<◌, ◌≡◌, Bool, false, List, length, is_some}
 use Rattle.std.specs.Io.KnownBytes.{IsAtEnd}
 use Rattle.std.specs.declared.option.Option.{Option}
-use Rattle.input.specs.declared.Over.{Over}
+use Rattle.input.specs.declared.once.Over.{Over}
 
 -- it was read into the whole of this buffer, whose start has the bytes that were read
 abbrev pub ReadInto : Over → List ℕ → Type 0

@@ -7,7 +7,7 @@ use Rattle.report.proofs.Unique.{one-dated-listing}
 use Rattle.running.specs.Run.{Ran}
 use Rattle.running.proofs.Unique.{one_ran}
 use Rattle.listing_io.specs.Run.{Listing}
-use Rattle.input.specs.declared.Over.{Over}
+use Rattle.input.specs.declared.once.Over.{Over}
 
 -- `run`
 pub one_run : (o : Over) (input old x y : List ℕ) → Ran Listing o input old x → Ran Listing o input old y → x ≡ y

@@ -7,7 +7,7 @@ use Prim.Native.Nat.{ℕ}
 use Rattle.told.specs.Over.{over}
 use Rattle.input.specs.Input.{failed}
 use Rattle.running.specs.Run.{Ran}
-use Rattle.input.specs.declared.Over.{Over}
+use Rattle.input.specs.declared.once.Over.{Over}
 
 -- a program that prints one text for an input: two runs that read the same leave the same text
 pub one_ran : (Prints : List ℕ → List ℕ → Type 0) → ((input t u : List ℕ) → Prints input t → Prints input u → t ≡ u)

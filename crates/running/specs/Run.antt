@@ -5,7 +5,7 @@ use Rattle.std.specs.declared.option.Option.{Option}
 use Rattle.std.specs.declared.io.Error.{Error}
 use Rattle.told.specs.Over.{over}
 use Rattle.input.specs.Input.{ReadInto, failed}
-use Rattle.input.specs.declared.Over.{Over}
+use Rattle.input.specs.declared.once.Over.{Over}
 
 -- the input was read into the whole buffer, and the text buffer has what the program prints for its bytes; where a read failed, what stood there
 abbrev pub Ran : (List ℕ → List ℕ → Type 0) → Over → List ℕ → List ℕ → List ℕ → Type 0
