@@ -21,14 +21,18 @@ fn four<K: Key>(keys: &[K], i: usize) -> bool
     drops_at(keys, i) || drops_at(keys, i + 1) || drops_at(keys, i + 2) || drops_at(keys, i + 3)
 }
 
+// No table keeps more pairs than this.
+const MOST: usize = 8192;
+
 // Some index below which none drops, by steps of four.
-// Stays: the counted loop by fours, for the bar of speed of docs/SPEED.md, "Lookups": the check takes 7.5 instructions a kept pair.
+// Stays: the counted loop by fours, for the bar of speed of docs/SPEED.md, "Lookups": the check takes 7.5 instructions a kept pair. That i + 3 does not wrap is
+// why it goes no further than a table does.
 pub(crate) fn steady<K: Key>(keys: &[K]) -> usize
     ensures { (1 ≤ result) × NoneBelow (drops K.lt K.zero keys.now) result }
 {
     let mut i = 1;
-    let last = keys.len().saturating_sub(3);
-    while i < last {
+    let n = keys.len().min(MOST);
+    while i + 3 < n {
         if four(keys, i) {
             return i;
         }
