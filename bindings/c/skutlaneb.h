@@ -213,15 +213,14 @@ struct skut_table_answer skut_offer(struct skut_state state, uint64_t *seqs, siz
 
 /* Offers pairs in order, from two lists of one length, up to the first that is refused (31, 16, 17). Lists of different length are refused before all else: 18.
  * Where a state is returned, the numbers of `tally` add up to the length or, with 31, 16 or 17, to the position that is told. With 16 or 17 the state counts that
- * refusal; with 31 it is as the pairs before left it. Stack: 1,024 bytes; until memcpy is found,
- * as in skut_restore, more by what the dynamic linker takes. */
+ * refusal; with 31 it is as the pairs before left it. Stack: 896 bytes. */
 struct skut_table_answer skut_offer_pairs(struct skut_state state, uint64_t *seqs, size_t seqs_len, int64_t *secs, size_t secs_len,
                                           const uint64_t *from_seqs, size_t from_seqs_len, const int64_t *from_secs, size_t from_secs_len);
 
 /* Offers the pairs of another table, whose arrays are not those of the own one, up to the first that is refused (31, 17). Where a table is bad (14, 11, 12, 13),
  * which of the two is told last: 0 for the own one, 1 for the other. Where a state is returned, the numbers of `tally` add up to the other table's `count` or,
  * with 31 or 17, to the position that is told. With 17 the state counts that refusal; with 31 it is as the pairs before left it. The other table's totals are
- * checked, by 14, and else they do not matter. Stack: 1,152 bytes; until memcpy is found, more, too. */
+ * checked, by 14, and else they do not matter. Stack: 1,152 bytes. */
 struct skut_table_answer skut_extend_from(struct skut_state state, uint64_t *seqs, size_t seqs_len, int64_t *secs, size_t secs_len,
                                           struct skut_state other, const uint64_t *other_seqs, size_t other_seqs_len,
                                           const int64_t *other_secs, size_t other_secs_len);

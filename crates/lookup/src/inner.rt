@@ -7,7 +7,8 @@ use crate::FindOption;
 use order::inner::key::Key;
 use search::inner::sorted::Sorted;
 
-// The position that answers, among the first n keys.
+// The position that answers, among the first n keys. Inline, so that each question of a list is one call, of the search.
+#[inline(always)]
 pub fn place<K: Key>(keys: &[K], n: usize, x: K, find_opt: FindOption) -> Option<usize>
     requires { InOrder K.lt K.zero keys.now n }
     ensures { result ≡ among n (place K.lt K.zero find_opt keys.now n x) }

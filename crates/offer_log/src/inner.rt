@@ -19,13 +19,14 @@ pub struct Progress {
     pub tally: Tally,
 }
 
-// Where a record has stopped it, and why.
+// Where a record has stopped it, and why. The table and the tally come first, as in `Progress`, so that a walk keeps both at one place, whether it goes on or not:
+// a record of a list takes 56 instructions so, and 61 with them last.
 #[derive(Clone, Copy)]
 pub struct Stop {
-    pub at: usize,
-    pub why: Refusal,
     pub table: SequenceTracker,
     pub tally: Tally,
+    pub at: usize,
+    pub why: Refusal,
 }
 
 // The records before the one that stops it were counted, so their number is its position.

@@ -78,6 +78,8 @@ impl From<Logged> for TableAnswer {
 impl<T: Into<TableAnswer>, E: Into<Answer>> From<Result<T, E>> for TableAnswer {
     ghost from_gives = { λ told answer. MatchResult told (λ given. T.converts given answer) (λ why. (refusal : Answer) × E.converts why refusal × (answer ≡ record { answer = refusal; tally = none_yet; state = no_state })) };
 
+    // Inline, so that what a list of offers told is no second struct on the stack of skut_offer_pairs, which the header bounds.
+    #[inline(always)]
     fn from(told: Result<T, E>) -> TableAnswer {
         match told {
             Ok(given) => given.into(),
