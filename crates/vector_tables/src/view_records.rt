@@ -21,7 +21,7 @@ pub fn shown_so(mut body: Body<'_>, table: SequenceTracker, seqs: &[u64], secs: 
         None => recorded == 0,
         Some(last) => (recorded == 1) & (last.0 == second),
     };
-    (table.count == n) & last_so & values_so(body, first(seqs, n), first(secs, n))
+    (table.count == n) && (last_so & values_so(body, first(seqs, n), first(secs, n)))
 }
 
 // The image that saving writes, empty if it refuses.
