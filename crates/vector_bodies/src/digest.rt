@@ -1,7 +1,7 @@
 // The digest of FORMAT.md, of an image and of pairs.
 ghost use Rattle.std.specs.Prelude.{◌≡◌, ℕ, bit_xor};
 ghost use Rattle.std.specs.Int.{w64, cast_unsigned};
-ghost use Rattle.std.specs.List.{fold};
+ghost use Rattle.std.specs.List.{fold, zip};
 ghost use Rattle.vector_bodies.specs.Digest.{mix};
 
 use vector_bytes::Body;
@@ -61,7 +61,19 @@ pub fn image_so(mut body: Body<'_>, image: &[u8]) -> bool {
     (image.len() == length as usize) & (digest(image) == body.read())
 }
 
+// The digests of the sequences and of the seconds of pairs, made beside each other: a step waits for the one before it in its own digest alone.
+fn digests(seqs: &[u64], secs: &[i64]) -> (u64, u64)
+    ensures { result ≡ fold (λ d p. (mix (bit_xor d.0 p.0), mix (bit_xor d.1 (cast_unsigned w64 p.1)))) (START, START) (zip seqs.now secs.now) }
+{
+    seqs.iter()
+        .zip(secs)
+        .fold((START, START), |(d, e), (x, y)| {
+            (mix(d ^ x.bits()), mix(e ^ y.bits()))
+        })
+}
+
 // Whether pairs have the digests that a body goes on with: of the sequences, then of the seconds.
 pub fn pairs_so(mut body: Body<'_>, seqs: &[u64], secs: &[i64]) -> bool {
-    (digest(seqs) == body.read()) & (digest(secs) == body.read())
+    let (d, e) = digests(seqs, secs);
+    (d == body.read()) & (e == body.read())
 }
