@@ -12,11 +12,16 @@ pub struct Body<'a> {
 }
 
 impl<'a> Body<'a> {
-    // The next N bytes.
+    // The next N bytes. Where they are all there they are copied as an array, whose length is known: a number is then one load.
+    #[inline(always)]
     fn bytes<const N: usize>(&mut self) -> [u8; N]
         ensures value { result ≡ padded N self.old.left.now }
         ensures left { self.new.left.now ≡ drop N self.old.left.now }
     {
+        if let Some((head, left)) = self.left.split_first_chunk::<N>() {
+            self.left = left;
+            return *head;
+        }
         let mut bytes = [0u8; N];
         let n = N.min(self.left.len());
         let (head, left) = self.left.split_at(n);
@@ -26,6 +31,7 @@ impl<'a> Body<'a> {
     }
 
     // The next number.
+    #[inline(always)]
     pub fn read<T: Number>(&mut self) -> T
         ensures value { result ≡ T.of_bytes (padded T.size self.old.left.now) }
         ensures left { self.new.left.now ≡ drop T.size self.old.left.now }
@@ -60,6 +66,7 @@ impl Number for u8 {
 
     ghost of_bytes = { first_byte };
 
+    #[inline(always)]
     fn read(body: &mut Body<'_>) -> u8 {
         let [byte] = body.bytes::<1>();
         byte
@@ -71,6 +78,7 @@ impl Number for u16 {
 
     ghost of_bytes = { from_le_bytes w16 };
 
+    #[inline(always)]
     fn read(body: &mut Body<'_>) -> u16 {
         u16::from_le_bytes(body.bytes::<2>())
     }
@@ -81,6 +89,7 @@ impl Number for u32 {
 
     ghost of_bytes = { from_le_bytes w32 };
 
+    #[inline(always)]
     fn read(body: &mut Body<'_>) -> u32 {
         u32::from_le_bytes(body.bytes::<4>())
     }
@@ -91,6 +100,7 @@ impl Number for u64 {
 
     ghost of_bytes = { from_le_bytes w64 };
 
+    #[inline(always)]
     fn read(body: &mut Body<'_>) -> u64 {
         u64::from_le_bytes(body.bytes::<8>())
     }
@@ -101,6 +111,7 @@ impl Number for i64 {
 
     ghost of_bytes = { λ bytes. cast_signed w64 (from_le_bytes w64 bytes) };
 
+    #[inline(always)]
     fn read(body: &mut Body<'_>) -> i64 {
         i64::from_le_bytes(body.bytes::<8>())
     }
