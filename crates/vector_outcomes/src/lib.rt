@@ -43,7 +43,12 @@ impl Told {
             Refusal::Version(byte) => byte,
             Refusal::TooMany(array) | Refusal::CountDiffers(array) => number_of(array),
             Refusal::DiffCut(_, _, width, _) => width,
-            _ => 0,
+            Refusal::Empty
+            | Refusal::Header
+            | Refusal::CountCut(..)
+            | Refusal::FirstCut(..)
+            | Refusal::CodeEnd(..)
+            | Refusal::PrefixCut(..) => 0,
         };
         Told {
             number: why.number(),
