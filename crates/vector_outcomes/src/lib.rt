@@ -87,6 +87,12 @@ impl Stop {
         }
     }
 
+    // Whether it is the one that a body goes on with. Stays out of line: most refusals have no place, and need no room for one.
+    #[inline(never)]
+    fn is_so(self, body: Body<'_>) -> bool {
+        self == Stop::read(body)
+    }
+
     fn at(array: Array, index: usize, place: Place) -> Option<Stop> {
         Some(Stop {
             array: number_of(array),
@@ -110,13 +116,16 @@ impl Stop {
     }
 }
 
-// Whether a refusal is the one that was told and, if it has a place, the bytes stop where a body goes on to say.
+// Whether a refusal is the one that was told and, if it has a place, the bytes stop where a body goes on to say. Stays out of
+// line: within unread_so it made that a call of its own, which lays its arrays anew for each record.
+#[inline(never)]
 pub fn refused_so(why: Refusal, told: Option<Told>, body: Body<'_>) -> bool {
-    let stops_so = match Stop::of(why) {
-        Some(stop) => stop == Stop::read(body),
-        None => true,
-    };
-    (told == Some(Told::of(why))) & stops_so
+    let told_so = told == Some(Told::of(why));
+    told_so
+        && match Stop::of(why) {
+            Some(stop) => stop.is_so(body),
+            None => true,
+        }
 }
 
 // Whether an image has the length that a body goes on with, and the bytes after it follow; or is refused as told, and none do.
