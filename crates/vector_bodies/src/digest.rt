@@ -72,7 +72,7 @@ fn digests(seqs: &[u64], secs: &[i64]) -> (u64, u64)
         })
 }
 
-// Whether pairs have the digests that a body goes on with: of the sequences, then of the seconds.
+// Whether pairs, in two lists of one length, have the digests that a body goes on with: of the sequences, then of the seconds.
 pub fn pairs_so(mut body: Body<'_>, seqs: &[u64], secs: &[i64]) -> bool {
     let (d, e) = digests(seqs, secs);
     (d == body.read()) & (e == body.read())
